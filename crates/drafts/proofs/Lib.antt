@@ -1,0 +1,9 @@
+pub mod Places
+pub mod Walks
+pub mod Entering
+pub mod Standing
+pub mod Leaving
+pub mod Bulks
+pub mod Growing
+pub mod Plainly
+pub mod RowsSay

@@ -1,0 +1,9 @@
+pub mod Tree
+pub mod Grammar
+pub mod Table
+pub mod TextRules
+pub mod Added
+pub mod Left
+pub mod Bulk
+pub mod Trees
+pub mod Plain

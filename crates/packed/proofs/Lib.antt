@@ -1,0 +1,4 @@
+pub mod Parts
+pub mod Layouts
+pub mod Steps
+pub mod NodesRead

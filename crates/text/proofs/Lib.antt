@@ -1,0 +1,4 @@
+pub mod Utf8Tests
+pub mod Bounds
+pub mod Bytes8
+pub mod Bigs

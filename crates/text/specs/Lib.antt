@@ -1,0 +1,3 @@
+pub mod Utf8Test
+pub mod Numbers
+pub mod BigInts
