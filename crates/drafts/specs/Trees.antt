@@ -48,6 +48,6 @@ pub record Trees-stand (file : List ℕ) : Type 0 where
   -- every tree obeys the grammar
   pub obeyed : (rs : List Record) (n : ℕ) → Left file rs n → (i : ℕ) → i < n → obeys (tree file rs i) ≡ true
 
--- how many lines a draft of n nodes has; the refusals are at the file's end
+-- how many lines a draft of n nodes has; a foreign table is refused at the file's length
 abbrev pub lines-counted : List ℕ → ℕ → List Record → Result ℕ Refusal
 lines-counted file n rs = and-then (checked file n rs (length file)) (λ _. Ok (many (waiting file rs n)))

@@ -17,4 +17,3 @@ pub use draft::open;
 pub use lines::line_count;
 pub use record::Record;
 pub use record::RecordDefault;
-pub use record::Source;

@@ -35,7 +35,7 @@ impl Source<'_> {
     }
 }
 
-/// How many lines the draft has; or the refusal, at the file's end, of a file that is too long or a foreign table.
+/// How many lines the draft has; or the refusal of a file that is too long, or of a foreign table, at the file's length.
 pub fn line_count<'a>(file: &'a [u8], draft: &Draft, table: &'a [Record]) -> Result<usize, Refusal>
     ensures count { λ r. ⌜ r ≡ lines-counted (now (file .entry)) (now (draft .entry) .nodes) (now (table .entry)) ⌝ }
     ensures trees { λ _. ⌜ Trees-stand (now (file .entry)) ⌝ }
