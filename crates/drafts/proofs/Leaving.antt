@@ -14,7 +14,7 @@ use Rattle.std.specs.declared.result.Result.{Result}
 use Rattle.std.specs.declared.result.Result.the-variants.{Ok, Err}
 use Rattle.packed.specs.declared.refusal.Refusal.{Refusal}
 use Rattle.packed.specs.declared.refusal.Reason.{Reason}
-use Rattle.packed.specs.declared.refusal.Reason.the-variants.{CutField, WrongTag, BadHeader, TypeScriptOnly, BadText, BadChildren, Full, ForeignTable}
+use Rattle.packed.specs.declared.refusal.Reason.the-variants.{CutField, WrongTag, BadHeader, TypeScriptOnly, BadText, BadChildren, Full, ForeignTable, BadSwitch, BadScope}
 use Rattle.packed.specs.Fields.{Told, node, scope, switch, name, other, next-at}
 use Rattle.packed.specs.Reading.{refused, and-then, read-at, node-only, node-at}
 use Rattle.packed.proofs.Steps.{no-err, ok-same, pass}
@@ -155,6 +155,8 @@ is-foreign BadText = false
 is-foreign BadChildren = false
 is-foreign Full = false
 is-foreign ForeignTable = true
+is-foreign BadSwitch = false
+is-foreign BadScope = false
 
 abbrev refuses-foreign : {A : Type 0} → Result A Refusal → Bool
 refuses-foreign (Ok a) = false

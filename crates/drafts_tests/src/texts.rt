@@ -1,9 +1,13 @@
 //! The text rules.
 
 use std::test::*;
+use text::big_int_index;
 use text::is_big_int;
 use text::is_utf8;
+use text::iteration_steps;
+use text::number_index;
 use text::number_literal;
+use text::string_length;
 
 #[test]
 fn number_literals() -> Result<(), Fail> {
@@ -82,6 +86,59 @@ fn utf8() -> Result<(), Fail> {
     ];
     for bytes in ill_formed {
         check(!is_utf8(bytes)).note(format_args!("{bytes:?}"))?;
+    }
+    Ok(())
+}
+
+#[test]
+fn strings() -> Result<(), Fail> {
+    // the text, its length in code units, and the steps of an iteration
+    let cases = [
+        ("", 0usize, 0usize),
+        ("a", 1, 1),
+        ("a\u{1f600}", 3, 2),
+        ("\u{ffff}", 1, 1),
+        ("\u{10000}", 2, 1),
+        ("\u{d7ff}\u{e000}\u{10ffff}", 4, 3),
+    ];
+    for (text, length, steps) in cases {
+        check_eq(
+            (string_length(text), iteration_steps(text)),
+            (length, steps),
+        ).note(text)?;
+    }
+    Ok(())
+}
+
+#[test]
+fn indices() -> Result<(), Fail> {
+    let numbers = [
+        (0.0f64, Some(0u32)),
+        (1.0, Some(1)),
+        (0.5, None),
+        (1.5, None),
+        (4_294_967_295.0, Some(4_294_967_295)),
+        (4_294_967_294.5, None),
+        (4_294_967_296.0, None),
+        (f64::MAX, None),
+        (f64::INFINITY, None),
+    ];
+    for (number, index) in numbers {
+        check_eq(number_index(&number.to_bits().to_be_bytes()), index)?;
+    }
+    check_eq(number_index(b""), None)?;
+    let texts = [
+        ("0", Some(0u32)),
+        ("10", Some(10)),
+        ("4294967295", Some(4_294_967_295)),
+        ("4294967296", None),
+        ("18446744073709551616", None),
+        ("-1", None),
+        ("", None),
+        ("+1", None),
+    ];
+    for (text, index) in texts {
+        check_eq(big_int_index(text), index).note(text)?;
     }
     Ok(())
 }

@@ -2,7 +2,7 @@
 
 use drafts::Record;
 use drafts::RecordDefault;
-use marking::CountsDisplay;
+use marking::ReportDisplay;
 use marking::read_hook;
 use packed::RefusalDisplay;
 use std::alloc::AllocError;
@@ -13,6 +13,9 @@ use std::io::BufReader;
 
 /// How many nodes `mark` holds.
 const NODES: usize = 2048;
+
+/// How many scope records it holds.
+const SCOPES: usize = 1024;
 
 /// The bytes that hexadecimal digits write; spaces are passed over, and `None` is for any other byte or a lone digit.
 fn bytes_of(heap: Global, text: &str) -> Result<Option<Vec<u8>>, AllocError> {
@@ -43,8 +46,9 @@ fn bytes_of(heap: Global, text: &str) -> Result<Option<Vec<u8>>, AllocError> {
 /// Prints the name, and what `mark` prints of the hook.
 fn run(rt: &LibcRuntime, name: &str, file: &[u8]) -> Result<(), AnyError> {
     let mut table = vec![in rt.alloc(); Record::default(); NODES]?;
-    match read_hook(file, &mut table) {
-        Ok(counts) => println!(rt, "{name} | {counts}")?,
+    let memory = Vec::with_capacity(rt.alloc(), SCOPES)?;
+    match read_hook(file, &mut table, memory) {
+        Ok(report) => println!(rt, "{name} | {report}")?,
         Err(refusal) => println!(rt, "{name} | {refusal}")?,
     }
     Ok(())

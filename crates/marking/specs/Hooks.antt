@@ -2,6 +2,7 @@
 use Prim.Native.Nat.{ℕ}
 use mathlib.Core.Path.{_≡_}
 use mathlib.Core.List.{List, _++_}
+use mathlib.Core.Logic.{_⊎_}
 use lib.Chars.{codes}
 use Rattle.std.specs.Written.{decimal}
 use Rattle.std.specs.declared.option.Option.the-variants.{Some, None}
@@ -11,14 +12,31 @@ use Rattle.packed.specs.declared.refusal.Refusal.{Refusal}
 use Rattle.drafts.specs.declared.record.Record.{Record}
 use Rattle.drafts.specs.Tree.{many, waiting}
 use Rattle.drafts.specs.Bulk.{AddsAll}
-use Rattle.marking.specs.declared.hook.Counts.{Counts}
+use Rattle.marking.specs.declared.hook.Report.{Report}
+use Rattle.marking.specs.declared.host.HostReport.{HostReport}
+use Rattle.marking.specs.HostReports.{host-reported, host-line}
 
--- adding every field of the file to a draft just opened, in the table rs, leaves the table new; its nodes and lines are counted,
--- or the refusal that stopped it is answered
-abbrev pub Reports : List ℕ → List Record → List Record → Result Counts Refusal → Type 0
-Reports file rs new (Ok c) =
-    (q : ℕ) × (AddsAll file 0 rs 0 (c .nodes) new q None × (c .lines ≡ many (waiting file new (c .nodes))))
-Reports file rs new (Err e) = (m : ℕ) × ((q : ℕ) × AddsAll file 0 rs 0 m new q (Some e))
+-- the host was made, and every field from the first node on was added to a draft just opened, in the table rs, which leaves the table new
+pub record Read (file : List ℕ) (limit : ℕ) (rs new : List Record) (c : Report) : Type 0 where
+  pub place : ℕ
+  pub made : host-reported limit file ≡ Ok (c .host, place)
+  pub reached : ℕ
+  pub run : AddsAll file 0 rs place (c .nodes) new reached None
+  pub lines : c .lines ≡ many (waiting file new (c .nodes))
 
-abbrev pub line : ℕ → ℕ → List ℕ
-line nodes lines = codes "nodes " ++ (decimal nodes ++ (codes " lines " ++ decimal lines))
+-- the host was made, and a refusal stopped the adds
+pub record Stopped (file : List ℕ) (limit : ℕ) (rs new : List Record) (e : Refusal) : Type 0 where
+  pub host : HostReport
+  pub place : ℕ
+  pub made : host-reported limit file ≡ Ok (host, place)
+  pub nodes : ℕ
+  pub reached : ℕ
+  pub run : AddsAll file 0 rs place nodes new reached (Some e)
+
+-- what is answered of a file, in a table for nodes and with room for `limit` scope records
+abbrev pub Reports : List ℕ → ℕ → List Record → List Record → Result Report Refusal → Type 0
+Reports file limit rs new (Ok c) = Read file limit rs new c
+Reports file limit rs new (Err e) = ((host-reported limit file ≡ Err e) × (new ≡ rs)) ⊎ Stopped file limit rs new e
+
+abbrev pub line : Report → List ℕ
+line c = codes "nodes " ++ (decimal (c .nodes) ++ (codes " lines " ++ (decimal (c .lines) ++ (codes " " ++ host-line (c .host)))))

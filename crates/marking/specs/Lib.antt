@@ -1,1 +1,3 @@
+pub mod Choices
+pub mod HostReports
 pub mod Hooks

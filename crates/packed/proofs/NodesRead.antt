@@ -10,12 +10,33 @@ use borrow.Author.Tests.{leb-true, ltb-false}
 use Rattle.std.specs.declared.result.Result.{Result}
 use Rattle.std.specs.declared.result.Result.the-variants.{Ok, Err}
 use Rattle.packed.specs.declared.field.Scope.{Scope}
-use Rattle.packed.specs.declared.field.Switch.{Switch}
-use Rattle.packed.specs.declared.field.Switch.the-variants.{PropertyReads, PropertyWrites, UnknownGlobals}
+use Rattle.std.specs.declared.option.Option.{Option}
+use Rattle.std.specs.declared.option.Option.the-variants.{Some, None}
+use Rattle.packed.specs.declared.switch.Switch.{Switch}
+use Rattle.packed.specs.Switches.{switch-of}
 use Rattle.packed.specs.declared.refusal.Refusal.{Refusal}
-use Rattle.packed.specs.Fields.{Told, node, scope, switch, name, other, node-shaped, scope-shaped, is-byte, node-of, scope-record, host-field-of, field-of, field-at, next-at, payload-at}
+use Rattle.packed.specs.Fields.{Told, node, scope, switch, name, other, node-shaped, scope-shaped, switch-field, node-of, scope-record, host-field-of, field-of, field-at, next-at, payload-at}
 use Rattle.packed.specs.Reading.{and-then, read-at, node-only, node-at}
 use Rattle.packed.proofs.Steps.{no-err, ok-same, pass, pass-by}
+
+-- what stands at the place of a field that is read
+pub record Field-there (file : List ℕ) (p : ℕ) (a : Told × ℕ) : Type 0 where
+  pub small : length file ≤ 65535
+  pub whole : next-at file p ≤ length file
+  pub is : a .0 ≡ field-at file p
+  pub next : a .1 ≡ next-at file p
+
+pub field-there : (file : List ℕ) (p : ℕ) (a : Told × ℕ) → read-at file p ≡ Ok a → Field-there file p a
+field-there file p a r =
+    let r1 = pass-by (ltb 65535 (length file)) _ _ a r in
+    let r2 = pass (leb (next-at file p) (length file)) _ _ a (r1 .1) in
+    let here : (field-at file p, next-at file p) ≡ a = ok-same _ a (r2 .1) in
+    record {
+      small = omega (arith, ltb-false 65535 (length file) (r1 .0));
+      whole = leb-true _ _ (r2 .0);
+      is = sym (ap (λ (u : Told × ℕ). u .0) here);
+      next = sym (ap (λ (u : Told × ℕ). u .1) here);
+    }
 
 pub record Node-there (file : List ℕ) (p : ℕ) (t : Told × ℕ) : Type 0 where
   pub small : length file ≤ 65535
@@ -30,19 +51,21 @@ is-node (switch s) = false
 is-node (name text) = false
 is-node (other tag payload) = false
 
-not-node : (s : Scope) (x y z : Switch) (p : List ℕ) (tag : ℕ) (a b c d e : Bool) →
-    is-node (cond a (scope s) (cond b (switch x) (cond c (switch y) (cond d (switch z) (cond e (name p) (other tag p)))))) ≡ false
-not-node s x y z p tag true b c d e = refl
-not-node s x y z p tag false true c d e = refl
-not-node s x y z p tag false false true d e = refl
-not-node s x y z p tag false false false true e = refl
-not-node s x y z p tag false false false false true = refl
-not-node s x y z p tag false false false false false = refl
+switch-no-node : (p : List ℕ) (s : Option Switch) → is-node (switch-field p s) ≡ false
+switch-no-node p (Some s) = refl
+switch-no-node p None = refl
+
+not-node : (s : Scope) (t : Told) (p : List ℕ) (tag : ℕ) → is-node t ≡ false → (a b c : Bool) →
+    is-node (cond a (scope s) (cond b t (cond c (name p) (other tag p)))) ≡ false
+not-node s t p tag h true b c = refl
+not-node s t p tag h false true c = h
+not-node s t p tag h false false true = refl
+not-node s t p tag h false false false = refl
 
 host-no-node : (tag : ℕ) (p : List ℕ) → is-node (host-field-of tag p) ≡ false
 host-no-node tag p =
-    not-node (scope-record p) PropertyReads PropertyWrites UnknownGlobals p tag (eqb tag 2 && scope-shaped p) (eqb tag 3 && is-byte 1 p)
-    (eqb tag 3 && is-byte 2 p) (eqb tag 3 && is-byte 3 p) (eqb tag 4)
+    not-node (scope-record p) (switch-field p (switch-of (getD p 0 0))) p tag (switch-no-node p (switch-of (getD p 0 0))) (eqb tag 2 && scope-shaped p)
+    (eqb tag 3 && eqb (length p) 1) (eqb tag 4)
 
 first-cond : (b : Bool) (t u v : Told) → is-node u ≡ false → is-node v ≡ true → cond b t u ≡ v → v ≡ t
 first-cond true t u v n y e = sym e
@@ -63,15 +86,12 @@ there : (file : List ℕ) (p : ℕ) (x : Result (Told × ℕ) Refusal) (t : Told
 there file p (Err e) t r h = absurd (no-err e t h)
 there file p (Ok a) t r h =
     let n = node-only-is p (a .0) (a .1) t h in
-    let r1 = pass-by (ltb 65535 (length file)) _ _ a r in
-    let r2 = pass (leb (next-at file p) (length file)) _ _ a (r1 .1) in
-    let here : (field-at file p, next-at file p) ≡ a = ok-same _ a (r2 .1) in
-    let field : t .0 ≡ a .0 = ap (λ (u : Told × ℕ). u .0) (n .1) in
+    let f = field-there file p a r in
     record {
-      small = omega (arith, ltb-false 65535 (length file) (r1 .0));
-      whole = leb-true _ _ (r2 .0);
-      is = field ∙ told-node-is (getD file p 0) (payload-at file p) (a .0) (n .0) (ap (λ (u : Told × ℕ). u .0) here);
-      next = ap (λ (u : Told × ℕ). u .1) (n .1) ∙ sym (ap (λ (u : Told × ℕ). u .1) here);
+      small = f .small;
+      whole = f .whole;
+      is = ap (λ (u : Told × ℕ). u .0) (n .1) ∙ told-node-is (getD file p 0) (payload-at file p) (a .0) (n .0) (sym (f .is));
+      next = ap (λ (u : Told × ℕ). u .1) (n .1) ∙ f .next;
     }
 
 pub node-there : (file : List ℕ) (p : ℕ) (t : Told × ℕ) → node-at file p ≡ Ok t → Node-there file p t

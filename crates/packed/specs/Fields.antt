@@ -1,16 +1,18 @@
 -- What the bytes of a field mean.
 use Prim.Native.Nat.{ℕ, _+_, _*_}
-use mathlib.Core.Bool.{Bool, cond, _&&_}
+use mathlib.Core.Bool.{Bool, true, false, cond, _&&_}
 use mathlib.Core.List.{List}
 use lib.Dec.{leb, eqb}
 use lib.ListN.{length, getD, take, drop}
 use Rattle.packed.specs.declared.node.RawNode.{RawNode}
-use Rattle.packed.specs.declared.field.Switch as switches
-use Rattle.packed.specs.declared.field.Switch.the-variants.{PropertyReads, PropertyWrites, UnknownGlobals}
+use Rattle.std.specs.declared.option.Option.{Option}
+use Rattle.std.specs.declared.option.Option.the-variants.{Some, None}
+use Rattle.packed.specs.declared.switch.Switch as switches
 use Rattle.packed.specs.declared.field.Scope as scopes
 use Rattle.packed.specs.declared.field.Field.{Field}
 use Rattle.packed.specs.declared.field.Field.the-variants.{Node, Scope, Switch, Name, Other}
 use Rattle.packed.specs.ValueTypes.{type-of}
+use Rattle.packed.specs.Switches.{switch-of}
 
 -- a field by its values, with the bytes of each text in the place of a reference
 pub data Told : Type 0 where
@@ -30,6 +32,14 @@ told (Switch s) = switch s
 told (Name text) = name (text .now)
 told (Other tag payload) = other tag (payload .now)
 
+-- the tag is that of a node, whatever the payload
+abbrev pub has-node-tag : Told → Bool
+has-node-tag (node kind detail count reference text) = true
+has-node-tag (scope s) = false
+has-node-tag (switch s) = false
+has-node-tag (name text) = false
+has-node-tag (other tag payload) = eqb tag 1
+
 -- two bytes, the high one first
 abbrev pub word-at : List ℕ → ℕ → ℕ
 word-at bytes i = getD bytes i 0 * 256 + getD bytes (i + 1) 0
@@ -42,9 +52,10 @@ node-shaped p = leb 6 (length p)
 abbrev pub scope-shaped : List ℕ → Bool
 scope-shaped p = eqb (length p) 4 && (leb (getD p 2 0) 1 && leb (getD p 3 0) 8)
 
--- one byte, this one
-abbrev pub is-byte : ℕ → List ℕ → Bool
-is-byte b p = eqb (length p) 1 && eqb (getD p 0 0) b
+-- the field of a byte that is the number of a switch, or of another
+abbrev pub switch-field : List ℕ → Option switches.Switch → Told
+switch-field p (Some s) = switch s
+switch-field p None = other 3 p
 
 -- the node that a payload tells
 abbrev pub node-of : List ℕ → Told
@@ -57,10 +68,8 @@ scope-record p = record { reference = word-at p 0; outer = eqb (getD p 2 0) 1; �
 abbrev pub host-field-of : ℕ → List ℕ → Told
 host-field-of tag p =
     cond (eqb tag 2 && scope-shaped p) (scope (scope-record p))
-    (cond (eqb tag 3 && is-byte 1 p) (switch PropertyReads)
-    (cond (eqb tag 3 && is-byte 2 p) (switch PropertyWrites)
-    (cond (eqb tag 3 && is-byte 3 p) (switch UnknownGlobals)
-    (cond (eqb tag 4) (name p) (other tag p)))))
+    (cond (eqb tag 3 && eqb (length p) 1) (switch-field p (switch-of (getD p 0 0)))
+    (cond (eqb tag 4) (name p) (other tag p)))
 
 abbrev pub field-of : ℕ → List ℕ → Told
 field-of tag p = cond (eqb tag 1 && node-shaped p) (node-of p) (host-field-of tag p)

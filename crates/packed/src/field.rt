@@ -4,12 +4,13 @@ ghost use mathlib.Core.Path.{_≡_};
 ghost use Prim.Native.Nat.{_+_, _≤_};
 ghost use lib.Dec.{leb};
 ghost use lib.ListN.{length};
-ghost use Rattle.packed.specs.Fields.{told, field-of, field-at, word-at, next-at};
+ghost use Rattle.packed.specs.Fields.{told, has-node-tag, field-of, field-at, word-at, next-at};
 ghost use Rattle.packed.specs.Layout.{Reads};
 ghost use Rattle.packed.specs.Reading.{said, read-at};
 use super::node::RawNode;
 use super::refusal::Reason;
 use super::refusal::Refusal;
+use super::switch::Switch;
 use super::value_type::ValueType;
 
 /// The longest file that is read, in bytes.
@@ -23,17 +24,6 @@ pub struct Scope {
     pub value_type: Option<ValueType>,
 }
 
-/// What a host may count as an effect or not.
-#[derive(Clone, Copy)]
-pub enum Switch {
-    /// Reading a property.
-    PropertyReads,
-    /// Writing a property.
-    PropertyWrites,
-    /// Reading an unknown global.
-    UnknownGlobals,
-}
-
 /// A field; its texts are parts of the file.
 #[derive(Clone, Copy)]
 pub enum Field<'a> {
@@ -45,6 +35,15 @@ pub enum Field<'a> {
     Name(&'a [u8]),
     /// An unknown tag, or a payload that its tag does not allow; which refusal that is depends on the caller.
     Other { tag: u8, payload: &'a [u8] },
+}
+
+impl Field<'_> {
+    /// Whether the tag is that of a node, whatever the payload.
+    pub fn has_node_tag(self) -> bool
+        ensures { λ r. ⌜ r ≡ has-node-tag (told (self .entry)) ⌝ }
+    {
+        matches!(self, Field::Node(_) | Field::Other { tag: 1, .. })
+    }
 }
 
 fn field_of(tag: u8, payload: &[u8]) -> Field<'_>
@@ -63,9 +62,10 @@ fn field_of(tag: u8, payload: &[u8]) -> Field<'_>
             outer: *outer == 1,
             value_type: ValueType::of_number(*number),
         }),
-        (3, [1]) => Field::Switch(Switch::PropertyReads),
-        (3, [2]) => Field::Switch(Switch::PropertyWrites),
-        (3, [3]) => Field::Switch(Switch::UnknownGlobals),
+        (3, [number]) => match Switch::of_number(*number) {
+            Some(switch) => Field::Switch(switch),
+            None => Field::Other { tag, payload },
+        },
         (4, _) => Field::Name(payload),
         _ => Field::Other { tag, payload },
     }

@@ -20,10 +20,14 @@ pub enum Reason {
     BadText,
     /// Too few waiting nodes, or children that the kind does not allow.
     BadChildren,
-    /// A file of more than 65,535 bytes, or no room for another node.
+    /// A file of more than 65,535 bytes, or no room for another node or scope record.
     Full,
     /// A node table that accepted adds from this file do not leave.
     ForeignTable,
+    /// A number that is no switch's.
+    BadSwitch,
+    /// A scope record of reference 0, of another shape, or not above the one before it.
+    BadScope,
 }
 
 impl Reason {
@@ -40,6 +44,8 @@ impl Reason {
             Reason::BadChildren => 6,
             Reason::Full => 7,
             Reason::ForeignTable => 8,
+            Reason::BadSwitch => 11,
+            Reason::BadScope => 13,
         }
     }
 }

@@ -1,3 +1,5 @@
 pub mod Utf8Test
 pub mod Numbers
 pub mod BigInts
+pub mod CodeUnits
+pub mod Indices

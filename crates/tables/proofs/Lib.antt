@@ -1,0 +1,3 @@
+pub mod Ascent
+pub mod Listed
+pub mod Cut
