@@ -1,5 +1,7 @@
 //! Drafts of nodes: the rows of kinds, and `add`, which reads them.
 
+#![tactic(auto)]
+
 mod adding;
 mod bulk;
 mod children;

@@ -70,7 +70,7 @@ fn nodes(rt: HostRuntime) -> Result<(), Fail> {
     };
     assert_eq!(rt; (node.kind, node.detail), (1, 2));
     assert_eq!(rt; (node.count, node.reference), (0x0304, 0x0506));
-    assert_eq!(rt; node.text, b"hi");
+    assert_eq!(rt; node.text, b"hi".as_slice());
     assert_eq!(rt; next, 16);
     let Ok((Field::Node(node), next)) = read_field(b"\x01\x00\x06\xff\xfe\xff\xfd\xff\xfc", 0)
     else {

@@ -1,5 +1,7 @@
 //! Runs the reader of fields, the text rules and drafts on small and on long files.
 
+#![tactic(auto)]
+
 #[cfg(test)]
 mod adding;
 #[cfg(test)]

@@ -32,7 +32,7 @@ pub(crate) fn field_at(file: &[u8], place: usize) -> Result<(Field<'_>, usize), 
 
 /// Hands the fields before the first node to the host, in order, and answers the place of that node, or the file's end.
 pub(crate) fn gather<G: Gathers>(file: &[u8], host: &mut G) -> Result<usize, Refusal>
-    ensures { reached result (gathered host.new) ≡ gathers (takes host.old) (length file.now) file.now 0 (gathered host.old) }
+    ensures { reached result (G.gathered host.new) ≡ gathers (G.takes host.old) (length file.now) file.now 0 (G.gathered host.old) }
 {
     let mut place = 0;
     while place != file.len() {

@@ -1,5 +1,7 @@
 //! Hosts: what a hook may lean on.
 
+#![tactic(auto)]
+
 mod gathering;
 mod global_context;
 mod loosening;

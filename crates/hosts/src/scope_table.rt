@@ -3,7 +3,6 @@
 ghost use Rattle.std.specs.Prelude.{◌≡◌, true, [], ◌∷◌, vec_len, vec_capacity};
 ghost use Rattle.tables.specs.Order.{ascends};
 ghost use Rattle.hosts.specs.Scopes.{scope_keys, lookup, highest, scope_added, after};
-ghost use Rattle.std.proofs.Common.{rules, arith};
 
 use packed::{Reason, Scope};
 use std::cmp::Ordering;
@@ -19,7 +18,7 @@ pub struct ScopeTable {
 impl Ascending for ScopeTable {
     ghost keys = { λ t. scope_keys t.records.items };
 
-    ghost ascent = { first_of (Prim.search rules, Prim.grind (arith, Self.row.coded.inj)) };
+    ghost ascent = { λ t. t.ascent };
 
     fn len(&self) -> usize {
         self.records.len()

@@ -1,7 +1,7 @@
 //! `find`, over small tables.
 
 ghost use Rattle.std.specs.Prelude.{[], ◌∷◌, codes};
-ghost use Rattle.std.proofs.Common.{rules};
+ghost use Rattle.std.proofs.Common.{refl};
 
 use std::cmp::Ordering;
 use tables::{Ascending, OrderedTable, find};
@@ -12,7 +12,7 @@ struct Empty;
 impl Ascending for Empty {
     ghost keys = { λ _. [] };
 
-    ghost ascent = { Prim.search rules };
+    ghost ascent = { λ _. refl };
 
     fn len(&self) -> usize {
         0
@@ -33,7 +33,7 @@ struct One;
 impl Ascending for One {
     ghost keys = { λ _. (9 ∷ []) ∷ [] };
 
-    ghost ascent = { Prim.search rules };
+    ghost ascent = { λ _. refl };
 
     fn len(&self) -> usize {
         1
@@ -57,7 +57,7 @@ struct Numbers;
 impl Ascending for Numbers {
     ghost keys = { λ _. (3 ∷ []) ∷ ((7 ∷ []) ∷ ((8 ∷ []) ∷ ((300 ∷ []) ∷ ((301 ∷ []) ∷ ((40000 ∷ []) ∷ []))))) };
 
-    ghost ascent = { Prim.search rules };
+    ghost ascent = { λ _. refl };
 
     fn len(&self) -> usize {
         6
@@ -81,7 +81,7 @@ struct Names;
 impl Ascending for Names {
     ghost keys = { λ _. codes "a" ∷ (codes "ab" ∷ (codes "b" ∷ (codes "ba" ∷ []))) };
 
-    ghost ascent = { Prim.search rules };
+    ghost ascent = { λ _. refl };
 
     fn len(&self) -> usize {
         4

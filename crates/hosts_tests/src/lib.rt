@@ -1,5 +1,7 @@
 //! Runs the hosts, `find` over tables and the lists of known globals on small and on long files, and shows how to write a host of one's own.
 
+#![tactic(auto)]
+
 mod outer_host;
 
 pub use outer_host::OuterHost;

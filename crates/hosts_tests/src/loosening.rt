@@ -60,11 +60,11 @@ fn check_steps<C: MayHaveSideEffectsContext>(
     answers: &[Answer<'_>],
     steps: &[Step],
 ) -> Result<(), Fail> {
-    check_switches(rt, host, (true, true, true))?;
+    check_switches(rt, host, (true, true, true), 0);
     check_answers(rt, host, answers);
     for (number, answer, switches) in steps {
         assert_eq!(rt; answer_of(loosen(host, *number)), *answer, "by {number}");
-        check_switches(rt, host, *switches).note(format_args!("by {number}"))?;
+        check_switches(rt, host, *switches, *number);
         check_answers(rt, host, answers);
     }
     Ok(())
@@ -134,8 +134,8 @@ fn by_every_other_number(rt: HostRuntime) -> Result<(), Fail> {
         }
         assert_eq!(rt; answer_of(loosen(&mut host, number)), (11, 0));
         assert_eq!(rt; answer_of(loosen(&mut outer, number)), (11, 0));
-        check_switches(&rt, &host, (true, false, true))?;
-        check_switches(&rt, &outer, (true, true, true))?;
+        check_switches(&rt, &host, (true, false, true), 0);
+        check_switches(&rt, &outer, (true, true, true), 0);
         check_answers(&rt, &host, &[(b"a", 0, (false, 0)), (b"b", 0, (true, 0))]);
     }
     Ok(())

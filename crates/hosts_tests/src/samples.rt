@@ -68,20 +68,24 @@ pub fn check_answers<C: GlobalContext>(rt: &impl Abort, host: &C, answers: &[Ans
     }
 }
 
-/// Checks which switches a host counts: property reads, property writes and unknown globals.
+/// Checks which switches a host counts: property reads, property writes and unknown globals. A failure names the step's number, 0 for none.
 pub fn check_switches<C: MayHaveSideEffectsContext>(
     rt: &impl Abort,
     host: &C,
     switches: (bool, bool, bool),
-) -> Result<(), Fail> {
+    step: u8,
+) {
     let reads = match host.property_read_side_effects() {
         PropertyReadSideEffects::All => true,
         PropertyReadSideEffects::None => false,
     };
     let writes = host.property_write_side_effects();
     let globals = host.unknown_global_side_effects();
-    assert_eq!(rt; (reads, writes, globals), switches);
+    assert_eq!(rt; (reads, writes, globals), switches, "by {step}");
     let all = counted(host);
-    assert_eq!(rt; (all.reads, all.writes, all.unknown_globals), switches);
-    Ok(())
+    assert_eq!(rt;
+        (all.reads, all.writes, all.unknown_globals),
+        switches,
+        "by {step}"
+    );
 }

@@ -20,13 +20,13 @@ module _ {R : Type 0} (f : R → List ℕ) (xs : List R) (k : List ℕ) (i : ℕ
   here : listed (map f (drop i xs)) k ≡ (bytes_eq (f (get_or xs i d)) k || listed (map f (drop (i + 1) xs)) k)
   here = at_drop_more (λ ys. listed (map f ys) k) xs i d within
 
-  pub walk_found : Decides true (f (get_or xs i d) ≡ k) → true ≡ listed (map f xs) k
+  pub walk_found : true ≡ bytes_eq (f (get_or xs i d)) k → true ≡ listed (map f xs) k
   walk_found h =
-      sym (ap (λ b. b || listed (map f (drop (i + 1) xs)) k) (same (f (get_or xs i d)) k (h.0 refl))) ∙ sym here ∙ left
+      sym (ap (λ b. b || listed (map f (drop (i + 1) xs)) k) (sym h)) ∙ sym here ∙ left
 
-  pub walk_on : Decides false (f (get_or xs i d) ≡ k) → listed (map f (drop (i + 1) xs)) k ≡ listed (map f xs) k
+  pub walk_on : false ≡ bytes_eq (f (get_or xs i d)) k → listed (map f (drop (i + 1) xs)) k ≡ listed (map f xs) k
   walk_on h =
-      sym (ap (λ b. b || listed (map f (drop (i + 1) xs)) k) (other (f (get_or xs i d)) k (λ e. true≢false (sym (h.1 (sym e)))))) ∙ sym here ∙ left
+      sym (ap (λ b. b || listed (map f (drop (i + 1) xs)) k) (sym h)) ∙ sym here ∙ left
 
 pub walk_end : {R : Type 0} (f : R → List ℕ) (xs : List R) (k : List ℕ) (i : ℕ) → length xs ≤ i → listed (map f (drop i xs)) k ≡ listed (map f xs) k → false ≡ listed (map f xs) k
 walk_end f xs k i l left = sym (at_drop_all (λ ys. listed (map f ys) k) xs i l) ∙ left

@@ -1,6 +1,7 @@
 -- A name that no row has.
-use Rattle.std.proofs.Common.{◌≡◌, ℕ, Bool, false, cond, List, [], ◌∷◌, Decides, sym, refl, ap, ◌∙◌, true≢false}
+use Rattle.std.proofs.Common.{◌≡◌, ℕ, Bool, true, false, cond, List, [], ◌∷◌, sym, refl, ap, ◌∙◌, true≢false}
 use Rattle.std.specs.Str.{bytes_eq}
+use Rattle.std.proofs.lemmas.Slice.Eq.{bytes_eq-Decides}
 use Rattle.known_globals.specs.Properties.{Rows, under}
 use Rattle.known_globals.proofs.Members.{other}
 
@@ -13,6 +14,10 @@ pub under_none : {A : Type 0} (rows : Rows A) (name : List ℕ) → Apart rows n
 under_none [] name h = refl
 under_none (r ∷ rows) name h = ap (λ b. cond b r.1 (under rows name)) (other r.0 name h.0) ∙ under_none rows name h.1
 
--- a test that came out false refutes what it decides
-pub refuted : {P : Type 0} (b : Bool) → Decides b P → b ≡ false → P → ⊥
-refuted b d e p = true≢false (sym (d.1 p) ∙ e)
+-- two texts that a test finds different are not the same
+pub refuted : (x k : List ℕ) (b : Bool) → b ≡ bytes_eq x k → b ≡ false → x ≡ k → ⊥
+refuted x k b d e p = true≢false (sym ((bytes_eq-Decides x k).1 p) ∙ sym d ∙ e)
+
+-- two texts that a test finds the same are the same
+pub affirmed : (x k : List ℕ) (b : Bool) → b ≡ bytes_eq x k → b ≡ true → x ≡ k
+affirmed x k b d e = (bytes_eq-Decides x k).0 (sym d ∙ e)

@@ -2,6 +2,8 @@
 //!
 //! The names are those of oxc_ecmascript 0.156.0.
 
+#![tactic(auto)]
+
 mod constructors;
 mod identifiers;
 mod names;

@@ -1,5 +1,7 @@
 //! Reads a packed hook on standard input and prints how many nodes and lines it holds and which host it gives, or its refusal.
 
+#![tactic(auto)]
+
 use drafts::Record;
 use marking::read_hook;
 use std::io;

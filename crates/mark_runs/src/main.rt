@@ -1,5 +1,7 @@
 //! Runs what `mark` does on stored hooks: each line of standard input has a name, ` | ` and the hook's bytes in hexadecimal.
 
+#![tactic(auto)]
+
 use anyhow::anyhow;
 use drafts::Record;
 use marking::read_hook;

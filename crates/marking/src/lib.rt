@@ -1,5 +1,7 @@
 //! What the programs do with a packed hook.
 
+#![tactic(auto)]
+
 mod choice;
 mod hook;
 mod host;

@@ -1,5 +1,7 @@
 //! The packed file: fields of tag, length and payload, each read at a place.
 
+#![tactic(auto)]
+
 mod field;
 mod node;
 mod refusal;

@@ -1,7 +1,7 @@
 -- What strict ascent says of any two entries, and of where a key stands.
 use Rattle.std.proofs.Common.{◌≡◌, ℕ, zero, suc, ◌+◌, ◌<◌, ◌≤◌, Bool, true, false, cond, ◌&&◌, ◌⊎◌, List, [], ◌∷◌, length, get_or, Some, None, Option, Ordering, Less, Equal, Greater, sym, refl, ap, ◌∙◌, subst, inl, inr, ⊎_elim, true≢false, le_of_suc-le-suc, not-suc-le-zero, arith}
 use Rattle.std.specs.Cmp.{nat_cmp_total, unsigned_tied, alike_right}
-use Rattle.std.specs.Cmp.Lexicographic.{lexical, lists_total}
+use Rattle.std.specs.Cmp.Lexicographic.{lists_total}
 use Rattle.std.specs.Option.{option_map}
 use Rattle.std.specs.Ordering.{is_lt, is_eq, ordering_then, ordering_reverse, nat_cmp}
 use Rattle.std.specs.Str.{bytes_eq}
@@ -15,10 +15,10 @@ is_less Equal h = absurd (true≢false (sym h))
 is_less Greater h = absurd (true≢false (sym h))
 
 chain : (x y z : List ℕ) → order x y ≡ Less → order y z ≡ Less → order x z ≡ Less
-chain = (lexical nat_cmp_total).trans
+chain = (lists_total nat_cmp_total).trans
 
 flip : (x y : List ℕ) (o : Ordering) → order x y ≡ o → order y x ≡ ordering_reverse o
-flip x y o e = (lexical nat_cmp_total).flip y x ∙ ap ordering_reverse e
+flip x y o e = (lists_total nat_cmp_total).antisymm y x ∙ ap ordering_reverse e
 
 equal_then : (a b : Ordering) → is_eq (ordering_then a b) ≡ (is_eq a && is_eq b)
 equal_then Less b = refl

@@ -29,8 +29,8 @@ pub trait OrderedTable<K>: Ascending {
 
 /// Where the wanted key stands in the table.
 pub fn find<K: Copy, T: OrderedTable<K>>(table: &T, key: K) -> Option<usize>
-    ensures value { result ≡ position (T.Ascending.keys table.now) (sought key) }
-    ensures located { Located (T.Ascending.keys table.now) (sought key) result }
+    ensures value { result ≡ position (T.Ascending.keys table.now) (T.OrderedTable.sought key) }
+    ensures located { Located (T.Ascending.keys table.now) (T.OrderedTable.sought key) result }
 {
     let mut low = 0;
     let mut high = table.len();

@@ -1,5 +1,7 @@
 //! The rules of a node's text: UTF-8, number literals and BigInt literals.
 
+#![tactic(auto)]
+
 mod big_int;
 mod number;
 mod strings;

@@ -6,7 +6,7 @@ use Rattle.drafts.proofs.adding.add.Goals as goal
 pub returns : goal.returns
 returns c =
     record {
-      call = record { answers = c.add-node.ensures.answer; table = c.add-node.ensures.table; draft = c.add-node.ensures.draft };
+      call = record { answers = c.add_node.ensures.answer; table = c.add_node.ensures.table; draft = c.add_node.ensures.draft };
       foreign = foreign_only c.args.file.now;
       grammar = falls_into_parts;
       rows = rows_say;

@@ -10,6 +10,6 @@ accept-requires c =
       within = omega arith;
     }
 
-pub overflow-add-draft : goal.overflow-add-draft
-overflow-add-draft c =
-    omega (arith, (accepted_taken c.args.file.now c.args.table.now c.args.draft.now.nodes c.args.place _ (sym c.in-ok-made.ensures)).few)
+pub overflow_add-draft : goal.overflow_add-draft
+overflow_add-draft c =
+    omega (arith, (accepted_taken c.args.file.now c.args.table.now c.args.draft.now.nodes c.args.place _ (sym c.in_ok-made.ensures)).few)

@@ -4,8 +4,8 @@ use Rattle.drafts.proofs.Bulks.{long_stops, add_stops, add_moves, Moved}
 use Rattle.drafts.proofs.bulk.open_fields.Goals as goal
 use Rattle.drafts.proofs.bulk.open_fields.Goals.{In-Ok}
 
-pub returns-then-file-gt-MAX-FILE : goal.returns-then-file-gt-MAX-FILE
-returns-then-file-gt-MAX-FILE c = rw c.open-draft.ensures (long_stops c.args.file.now c.args.table.now c.args.place (omega arith))
+pub returns-then-file-gt-MAX_FILE : goal.returns-then-file-gt-MAX_FILE
+returns-then-file-gt-MAX_FILE c = rw c.open-draft.ensures (long_stops c.args.file.now c.args.table.now c.args.place (omega arith))
 
 moved : (c : In-Ok) →
     Moved c.args.file.now c.loop-at.draft.nodes c.loop-at.table c.loop-at.at c.loop-at-test.true c.enter.new.table

@@ -2,9 +2,9 @@ use Rattle.std.proofs.Common.{refl, arith}
 use Rattle.known_globals.specs.Identifiers.{known_names}
 use Rattle.known_globals.proofs.names.start_of.Goals as goal
 
-pub offset-bounds-i : goal.offset-bounds-i
+pub offset_bounds-i : goal.offset_bounds-i
 unfolding known_names
-offset-bounds-i c = omega arith
+offset_bounds-i c = omega arith
 
 pub bounds-i : goal.bounds-i
 unfolding known_names

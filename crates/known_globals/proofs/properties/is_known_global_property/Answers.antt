@@ -14,7 +14,7 @@ returns-then-among c =
 pub returns-else-among : goal.returns-else-among
 unfolding known_properties math_constants
 returns-else-among c =
-    in_second (map codes math_constants) (map codes pure_math_methods) c.args.property.now c.among.result c.is-pure-math-method.result c.among.ensures c.if-among.false c.is-pure-math-method.ensures
+    in_second (map codes math_constants) (map codes pure_math_methods) c.args.property.now c.among.result c.is_pure_math_method.result c.among.ensures c.if-among.false c.is_pure_math_method.ensures
     ∙ sym (ap (λ g. known_property g c.args.property.now) c.in-Math.is)
 
 pub returns-in-Number : goal.returns-in-Number
@@ -41,9 +41,9 @@ pub returns-in-JSON : goal.returns-in-JSON
 unfolding known_properties
 returns-in-JSON c = c.among-in-JSON.ensures ∙ sym (ap (λ g. known_property g c.args.property.now) c.in-JSON.is)
 
-pub returns-in-default : goal.returns-in-default
+pub returns-in_default : goal.returns-in_default
 unfolding known_properties
-returns-in-default c =
-    let w = c.in-default in
+returns-in_default c =
+    let w = c.in_default in
     sym (ap (λ row. listed row c.args.property.now) (under_none known_properties c.args.global.now
     (w.not-Math, (w.not-Number, (w.not-console, (w.not-Object, (w.not-Reflect, (w.not-Symbol, (w.not-JSON, tt)))))))))

@@ -1,7 +1,7 @@
-use Rattle.std.proofs.Common.{◌≡◌, true, false, [], ◌∷◌, sym, ap, ◌∙◌, true≢false}
+use Rattle.std.proofs.Common.{◌≡◌, true, false, codes, [], ◌∷◌, sym, ap, ◌∙◌, true≢false}
 use Rattle.tables.specs.Order.{listed}
 use Rattle.known_globals.specs.Properties.{row, under, object_prototype, known_properties_deep, known_property_deep}
-use Rattle.known_globals.proofs.Rows.{under_none, refuted}
+use Rattle.known_globals.proofs.Rows.{under_none, refuted, affirmed}
 use Rattle.known_globals.proofs.properties.is_known_global_property_deep.Goals as goal
 use Rattle.known_globals.proofs.properties.is_known_global_property_deep.Goals.{then-eq, else-eq}
 
@@ -11,8 +11,8 @@ returns-then-eq-2 c =
     elim c.if-eq.branch [
       | then-eq w ↦
           let both : w.eq-then-eq.result ≡ true = cc in
-          let g = c.eq.ensures.0 w.if-eq.true in
-          let m = w.eq-then-eq.ensures.0 both in
+          let g = affirmed c.args.global.now (codes "Object") _ c.eq.ensures w.if-eq.true in
+          let m = affirmed c.args.middle.now (codes "prototype") _ w.eq-then-eq.ensures both in
           c.among.ensures ∙ sym (λ i. known_property_deep (g i) (m i) c.args.property.now)
       | else-eq w ↦ let never : true ≡ false = cc in absurd (true≢false never)
     ]
@@ -23,13 +23,13 @@ returns-else-eq-2 c =
     elim c.if-eq.branch [
       | then-eq w ↦
           let not : w.eq-then-eq.result ≡ false = cc in
-          let g = c.eq.ensures.0 w.if-eq.true in
-          let none = under_none (row "prototype" object_prototype ∷ []) c.args.middle.now (refuted _ w.eq-then-eq.ensures not, tt) in
+          let g = affirmed c.args.global.now (codes "Object") _ c.eq.ensures w.if-eq.true in
+          let none = under_none (row "prototype" object_prototype ∷ []) c.args.middle.now (refuted c.args.middle.now (codes "prototype") _ w.eq-then-eq.ensures not, tt) in
           let known : known_property_deep c.args.global.now c.args.middle.now c.args.property.now ≡ false
           = (λ i. known_property_deep (g i) c.args.middle.now c.args.property.now) ∙ ap (λ row. listed row c.args.property.now) none in
           cc
       | else-eq w ↦
-          let none = under_none known_properties_deep c.args.global.now (refuted _ c.eq.ensures w.if-eq.false, tt) in
+          let none = under_none known_properties_deep c.args.global.now (refuted c.args.global.now (codes "Object") _ c.eq.ensures w.if-eq.false, tt) in
           let known : known_property_deep c.args.global.now c.args.middle.now c.args.property.now ≡ false
           = ap (λ rows. listed (under rows c.args.middle.now) c.args.property.now) none in
           cc

@@ -14,8 +14,8 @@ returns-in-Some c =
 pub loop-field-preserved : goal.loop-field-preserved
 loop-field-preserved c =
     let left = c.loop-field.invariant in
-    let on = kind_open c.args.file.now c.loop-field.place (told c.in-Ok.field) c.in-Ok.next c.in-Ok.ensures left.0 left.1.0 c.in-default-decided-by.ensures in
+    let on = kind_open c.args.file.now c.loop-field.place (told c.in-Ok.field) c.in-Ok.next c.in-Ok.ensures left.0 left.1.0 c.in_default-decided_by.ensures in
     (on.0, (on.1.0, sym on.1.1 ∙ left.1.1))
 
 pub returns : goal.returns
-returns c = let left = c.loop-field.invariant in sym (kind_cut c.args.file.now c.loop-field.place left.0 _ c.in-default.ensures) ∙ left.1.1
+returns c = let left = c.loop-field.invariant in sym (kind_cut c.args.file.now c.loop-field.place left.0 _ c.in_default.ensures) ∙ left.1.1

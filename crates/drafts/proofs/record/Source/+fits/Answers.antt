@@ -55,6 +55,6 @@ loop-least-preserved t c =
     let more = ap many c.before-end.ensures.layout in (
       omega arith,
       omega arith,
-      c.loop-least.invariant.2 ∙ one_more s c.args.detail rest c.loop-least.least c.loop-least.most c.loop-least.left c.saturating-sub-least.result ws _ _ not-here (omega arith) (omega arith) c.before-end.ensures.layout
-          (ap (λ (x : Set). has x c.args.detail (tree c.args.self.file.now c.args.self.records.now (c.loop-least.end - 1))) (sym c.set.ensures) ∙ sym c.if-not-has.ensures) c.saturating-sub-least.ensures,
+      c.loop-least.invariant.2 ∙ one_more s c.args.detail rest c.loop-least.least c.loop-least.most c.loop-least.left c.saturating_sub-least.result ws _ _ not-here (omega arith) (omega arith) c.before-end.ensures.layout
+          (ap (λ (x : Set). has x c.args.detail (tree c.args.self.file.now c.args.self.records.now (c.loop-least.end - 1))) (sym c.set.ensures) ∙ sym c.if-not-has.ensures) c.saturating_sub-least.ensures,
     )

@@ -9,10 +9,10 @@ use Rattle.drafts.proofs.record.Source.accept.Goals as goal
 
 pub returns : goal.returns
 returns c =
-    let node = c.in-ok-node.node in
+    let node = c.in_ok-node.node in
     entered_ok c.args.self.file.now c.args.self.records.now c.args.used c.args.place node.kind node.detail node.count node.reference
-    node.text.now c.in-ok-node.next c.in-Some.start (sym c.if-not-is-known.ensures) c.if-node-eq70.false
-    (sym c.if-not-is-text-allowed.ensures) c.in-Some.ensures (omega arith) ∙
+    node.text.now c.in_ok-node.next c.in-Some.start (sym c.if-not-is_known.ensures) c.if-node-eq70.false
+    (sym c.if-not-is_text_allowed.ensures) c.in-Some.ensures (omega arith) ∙
     ap
     (λ (x : Result (Told × ℕ) Refusal). and_then x (λ a. entered (waits c.args.self c.args.used) c.args.used c.args.place a.0 a.1))
-    c.in-ok-node.ensures
+    c.in_ok-node.ensures

@@ -8,11 +8,11 @@ use Rattle.drafts.proofs.record.Source.allows.Goals as goal
 pub returns-then-fewest-count : goal.returns-then-fewest-count
 returns-then-fewest-count c =
     allows_from c.children-children.result (waits c.args.self c.args.end) c.args.kind c.args.detail c.args.count c.fewest.result
-    c.requires.enough (c.children-children.ensures ∙ ap children_of c.row-of.ensures) c.fewest.ensures c.items-items.result _ c.items-items.ensures
+    c.requires.enough (c.children-children.ensures ∙ ap children_of c.row_of.ensures) c.fewest.ensures c.items-items.result _ c.items-items.ensures
     c.if-fewest-count.true c.fits.ensures
 
 pub returns-else-fewest-count : goal.returns-else-fewest-count
 returns-else-fewest-count c =
     lt-leb c.fewest.result c.args.count c.if-fewest-count.false ∙
     allows_not c.children-children.result (waits c.args.self c.args.end) c.args.kind c.args.detail c.args.count c.fewest.result
-    c.requires.enough (c.children-children.ensures ∙ ap children_of c.row-of.ensures) c.fewest.ensures c.if-fewest-count.false
+    c.requires.enough (c.children-children.ensures ∙ ap children_of c.row_of.ensures) c.fewest.ensures c.if-fewest-count.false

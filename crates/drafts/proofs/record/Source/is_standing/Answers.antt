@@ -5,7 +5,7 @@ use Rattle.drafts.proofs.record.Source.is_standing.Goals as goal
 
 pub returns-in-Ok : goal.returns-in-Ok
 unfolding stands
-returns-in-Ok c = c.is-same.ensures ∙ ap (makes (at c.args.self.records.now c.args.node)) c.in-Ok.ensures
+returns-in-Ok c = c.is_same.ensures ∙ ap (makes (at c.args.self.records.now c.args.node)) c.in-Ok.ensures
 
 pub returns-in-Err : goal.returns-in-Err
 unfolding stands

@@ -3,8 +3,8 @@ use Rattle.drafts.specs.Tree.{Spanned}
 use Rattle.drafts.proofs.Places.{span_fits, many_step, size_step, spanned_less}
 use Rattle.drafts.proofs.record.Source.start_of.Goals as goal
 
-pub overflow-sub-start-in-loop-left : goal.overflow-sub-start-in-loop-left
-overflow-sub-start-in-loop-left c =
+pub overflow_sub-start-in-loop-left : goal.overflow_sub-start-in-loop-left
+overflow_sub-start-in-loop-left c =
     omega (arith, span_fits c.args.self.file.now c.args.self.records.now c.loop-left.start (spanned_less c.args.self.file.now c.args.self.records.now _ _ c.requires.spanned c.loop-left.invariant.0) (omega arith))
 
 pub loop-left-preserved : goal.loop-left-preserved

@@ -9,10 +9,10 @@ use Rattle.std.proofs.lemmas.Bool.Decides.{Decides-eqb}
 pub loop-place-init : goal.loop-place-init
 loop-place-init c = (_, (omega arith, refl))
 
-pub returns-in-default : goal.returns-in-default
-returns-in-default c =
+pub returns-in_default : goal.returns-in_default
+returns-in_default c =
     let left = c.loop-place.invariant in
-    let cut = names_cut c.args.self.now.file.now c.args.self.now.end c.loop-place.place left.0 _ c.in-default.ensures in
+    let cut = names_cut c.args.self.now.file.now c.args.self.now.end c.loop-place.place left.0 _ c.in_default.ensures in
     sym (ap (λ ns. listed ns c.args.name.now) cut) ∙ left.1.1
 
 pub returns-then-eq : goal.returns-then-eq
@@ -42,7 +42,7 @@ loop-place-preserved c =
     let left = c.loop-place.invariant in
     let on =
     no_name c.args.self.now.file.now c.args.self.now.end c.loop-place.place left.0 c.in-Ok.field c.in-Ok.next c.loop-place-test.true
-    left.1.0 c.in-Ok.ensures c.in-default-field.not-Name in
+    left.1.0 c.in-Ok.ensures c.in_default-field.not-Name in
     (on.0, (on.1.0, sym (ap (λ ns. listed ns c.args.name.now) on.1.1) ∙ left.1.1))
 
 pub returns : goal.returns

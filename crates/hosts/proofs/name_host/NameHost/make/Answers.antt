@@ -5,7 +5,7 @@ use Rattle.hosts.proofs.name_host.NameHost.make.Goals as goal
 pub returns : goal.returns
 returns c =
     record {
-      made = c.of-fields.ensures.made;
-      kept = c.of-fields.ensures.kept;
+      made = c.of_fields.ensures.made;
+      kept = c.of_fields.ensures.kept;
       told = made_by_fields name_takes name_faithful c.args.file.now;
     }

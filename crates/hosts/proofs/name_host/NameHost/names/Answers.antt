@@ -8,10 +8,10 @@ use Rattle.hosts.proofs.name_host.NameHost.names.Goals as goal
 pub loop-place-init : goal.loop-place-init
 loop-place-init c = (omega arith, (length c.args.self.now.file.now, (omega arith, omega arith)))
 
-pub returns-in-default : goal.returns-in-default
-returns-in-default c =
+pub returns-in_default : goal.returns-in_default
+returns-in_default c =
     let left = c.loop-place.invariant.1 in
-    let cut = names_cut c.args.self.now.file.now c.args.self.now.end c.loop-place.place left.0 _ c.in-default.ensures in
+    let cut = names_cut c.args.self.now.file.now c.args.self.now.end c.loop-place.place left.0 _ c.in_default.ensures in
     omega (arith, ap length cut, left.1.1)
 
 pub loop-place-preserved-in-Name : goal.loop-place-preserved-in-Name
@@ -29,7 +29,7 @@ loop-place-preserved c =
     let on = forward c.args.self.now.file.now c.loop-place.place (told c.in-Ok.field) c.in-Ok.next c.in-Ok.ensures in
     let more =
     no_name c.args.self.now.file.now c.args.self.now.end c.loop-place.place left.0 c.in-Ok.field c.in-Ok.next c.loop-place-test.true
-    left.1.0 c.in-Ok.ensures c.in-default-field.not-Name in
+    left.1.0 c.in-Ok.ensures c.in_default-field.not-Name in
     (omega (arith, on.0), (more.0, (more.1.0, omega (arith, ap length more.1.1, left.1.1))))
 
 pub returns : goal.returns

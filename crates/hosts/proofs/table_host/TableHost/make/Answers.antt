@@ -6,4 +6,4 @@ use Rattle.hosts.proofs.table_host.TableHost.make.Goals as goal
 pub returns : goal.returns
 returns c =
     let limit = vec_capacity c.args.memory in
-    record { call = c.of-fields.ensures; told = made_by_fields (table_takes limit) (table_faithful limit) c.args.file.now }
+    record { call = c.of_fields.ensures; told = made_by_fields (table_takes limit) (table_faithful limit) c.args.file.now }
