@@ -1,15 +1,17 @@
 -- A field that is accepted, and the record that it makes.
-use Rattle.std.proofs.Common.{◌≡◌, ℕ, suc, ◌+◌, ◌-◌, ◌<◌, ◌≤◌, Bool, true, false, cond, not, ◌&&◌, eqb, ltb, leb, List, length, get_or, Some, None, Ok, Err, Result, sym, refl, ap, ◌∙◌, subst, arith, ltb-true, lt-ltb, ne_eqb, le-leb, leb-true}
+use Rattle.std.proofs.Common.{◌≡◌, ℕ, zero, suc, ◌+◌, ◌-◌, ◌<◌, ◌≤◌, Bool, true, false, cond, not, ◌&&◌, eqb, ltb, leb, List, length, get_or, Some, None, Ok, Err, Result, sym, refl, ap, ◌∙◌, subst, arith, ltb-true, lt-ltb, ne_eqb, le-leb}
 use borrow.Author.Tests.{lt-leb}
+use mathlib.Core.Bool.{and-false}
 use Rattle.packed.specs.declared.refusal.Refusal.{Refusal}
-use Rattle.packed.specs.Fields.{Told, node, scope, switch, name, other, payload_at, next_at, word_at, node_of}
+use Rattle.packed.specs.Fields.{Told, node, payload_at, next_at, word_at}
 use Rattle.packed.specs.Reading.{and_then, node_at}
 use Rattle.packed.proofs.Steps.{no_err, ok_same, pass}
-use Rattle.packed.proofs.NodesRead.{NodeThere, node_there}
+use Rattle.packed.proofs.NodesRead.{node_there}
 use Rattle.drafts.specs.declared.record.Record.{Record}
 use Rattle.drafts.specs.declared.row.Children.{Children}
+use Rattle.drafts.specs.declared.row.Children.TheVariants.{Leaf}
 use Rattle.drafts.specs.declared.row.Item.{Item}
-use Rattle.drafts.specs.Tree.{Nodes, many, sizes, last_of, waiting, at, text_at}
+use Rattle.drafts.specs.Tree.{Nodes, none, ◌▸◌, many, sizes, last_of, waiting, text_at}
 use Rattle.drafts.specs.Grammar.{fits}
 use Rattle.drafts.specs.Table.{row_of, text_of, children_of, items_of, fewest_of}
 use Rattle.drafts.specs.TextRules.{text_fits}
@@ -29,6 +31,16 @@ module _ (children : Children) (ws : Nodes) (kind detail count fewest : ℕ) (en
   pub allows_not : count < fewest → false ≡ allowed kind detail (last_of count ws)
   unfolding allowed
   allows_not l = let m = many_last count ws enough in rw (sym e, sym f, m, lt-leb fewest count l)
+
+-- without items, exactly no children are allowed
+bare : (k : ℕ) (ws : Nodes) (d : ℕ) → k ≤ many ws → eqb k 0 ≡ (leb (fewest_of Leaf) (many (last_of k ws)) && fits (items_of Leaf) d 3 (last_of k ws))
+bare zero ws d h = refl
+bare (suc k) none d h = absurd (omega arith)
+bare (suc k) (ws ▸ n) d h = ne_eqb (suc k) 0 (omega arith) ∙ sym (and-false _)
+
+pub allows_bare : (k kind detail : ℕ) (ws : Nodes) → Leaf ≡ children_of (row_of kind) → k ≤ many ws → eqb k 0 ≡ allowed kind detail (last_of k ws)
+unfolding allowed
+allows_bare k kind detail ws e h = rw (← e) (bare k ws detail h)
 
 some_cond : (b : Bool) (x y : ℕ) → Some x ≡ cond b (Some y) None → (b ≡ true) × (x ≡ y)
 some_cond true x y e = (refl, cc)

@@ -1,13 +1,13 @@
 -- The trees of records that stand.
-use Rattle.std.proofs.Common.{◌≡◌, ℕ, zero, suc, ◌+◌, ◌-◌, ◌<◌, ◌≤◌, Bool, true, false, not, ◌&&◌, eqb, leb, List, length, set, sym, refl, ap, ◌∙◌, subst, arith, leb-true}
+use Rattle.std.proofs.Common.{◌≡◌, ℕ, zero, suc, ◌-◌, ◌<◌, ◌≤◌, Bool, true, false, ◌&&◌, leb, List, set, sym, refl, ap, ◌∙◌, arith, leb-true}
 use Rattle.drafts.specs.declared.record.Record.{Record}
-use Rattle.drafts.specs.Tree.{Header, Node, Nodes, node, none, ◌▸◌, many, sizes, last_of, before_of, at, text_at, header_of, grown, waiting, tree, below_of, Spanned}
+use Rattle.drafts.specs.Tree.{Nodes, none, ◌▸◌, many, last_of, before_of, at, text_at, header_of, grown, waiting, tree, Spanned}
 use Rattle.drafts.specs.Table.{row_of, text_of}
 use Rattle.drafts.specs.TextRules.{text_fits}
-use Rattle.drafts.specs.Added.{known, allowed, children_fit, stands, sound}
-use Rattle.drafts.specs.Left.{Leads, here, further, Left}
+use Rattle.drafts.specs.Added.{allowed, stands, sound}
+use Rattle.drafts.specs.Left.{Leads, here, further}
 use Rattle.drafts.specs.Trees.{shaped, obeys, all_obey, walked, TreesStand}
-use Rattle.drafts.proofs.Places.{all_wait, layout, some_wait, spanned_less, last_more, span_fits, many_step}
+use Rattle.drafts.proofs.Places.{all_wait, layout, some_wait, spanned_less, span_fits, many_step}
 use Rattle.drafts.proofs.Walks.{many_last}
 use Rattle.drafts.proofs.Entering.{Taken}
 use Rattle.drafts.proofs.Standing.{and_left, and_right, spanned, stands_taken, sound_at}

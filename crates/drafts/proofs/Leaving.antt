@@ -1,12 +1,12 @@
 -- The records that accepted adds leave are those that stand.
-use Rattle.std.proofs.Common.{◌≡◌, ℕ, zero, suc, ◌+◌, ◌-◌, ◌<◌, ◌≤◌, Bool, true, false, cond, not, ◌&&◌, eqb, ltb, leb, ◌≢◌, List, length, get_or, set, Ok, Err, Result, sym, refl, ap, ◌∙◌, subst, add-one, arith, length-set, get_or-set_other, get_or-set_same, ltb-true, lt-ltb, le-leb, leb-true}
+use Rattle.std.proofs.Common.{◌≡◌, ℕ, zero, suc, ◌+◌, ◌<◌, ◌≤◌, Bool, true, false, cond, not, ◌&&◌, eqb, ltb, leb, ◌≢◌, List, length, set, Ok, Err, Result, sym, refl, ap, ◌∙◌, subst, add-one, arith, length-set, get_or-set_other, get_or-set_same, ltb-true, lt-ltb, le-leb, leb-true}
 use lib.Seq.{set-get_or}
 use Rattle.packed.specs.declared.refusal.Refusal.{Refusal}
 use Rattle.packed.specs.declared.refusal.Reason.{Reason}
 use Rattle.packed.specs.declared.refusal.Reason.TheVariants.{CutField, WrongTag, BadHeader, TypeScriptOnly, BadText, BadChildren, Full, ForeignTable, BadSwitch, BadScope}
 use Rattle.packed.specs.Fields.{Told, node, scope, switch, name, other, next_at}
 use Rattle.packed.specs.Reading.{refused, and_then, read_at, node_only, node_at}
-use Rattle.packed.proofs.Steps.{no_err, ok_same, pass}
+use Rattle.packed.proofs.Steps.{no_err, pass}
 use Rattle.drafts.specs.declared.record.Record.{Record}
 use Rattle.drafts.specs.Tree.{Nodes, waiting, at}
 use Rattle.drafts.specs.Table.{row_of, text_of}

@@ -1,8 +1,8 @@
 -- Where the children of a node stand among the records.
-use Rattle.std.proofs.Common.{◌≡◌, ℕ, zero, suc, ◌+◌, ◌-◌, ◌<◌, ◌≤◌, List, length, sym, refl, ap, ◌∙◌, subst, suc-add, zero-add, arith}
+use Rattle.std.proofs.Common.{◌≡◌, ℕ, zero, suc, ◌+◌, ◌-◌, ◌<◌, ◌≤◌, List, refl, ap, ◌∙◌, suc-add, zero-add, arith}
 use native.Mathlib.Nat.{sub-zero}
 use Rattle.drafts.specs.declared.record.Record.{Record}
-use Rattle.drafts.specs.Tree.{Node, Nodes, node, none, ◌▸◌, size, sizes, many, last_of, before_of, at, waiting, tree, Spanned}
+use Rattle.drafts.specs.Tree.{Node, Nodes, none, ◌▸◌, sizes, many, last_of, before_of, at, waiting, tree, Spanned}
 
 before_before : (c k : ℕ) (ns : Nodes) → before_of k (before_of c ns) ≡ before_of (c + k) ns
 before_before zero k ns = rw zero-add

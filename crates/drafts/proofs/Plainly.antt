@@ -1,11 +1,11 @@
 -- The grammar, in plain words.
-use Rattle.std.proofs.Common.{◌≡◌, ℕ, zero, suc, ◌-◌, ◌<◌, ◌≤◌, Bool, true, false, ◌&&◌, ◌||◌, eqb, ltb, ◌⊎◌, List, get_or, sym, refl, ap, ◌∙◌, subst, inl, inr, ⊎_elim, arith, ltb-true, lt-ltb, eq-eqb, eqb-true}
+use Rattle.std.proofs.Common.{◌≡◌, ℕ, zero, suc, ◌-◌, ◌<◌, ◌≤◌, Bool, true, false, ◌&&◌, ◌||◌, eqb, ltb, ◌⊎◌, List, get_or, sym, refl, ap, inl, inr, ⊎_elim, arith, ltb-true, lt-ltb, eqb-true}
 use Rattle.drafts.specs.declared.row.Set.{Set}
 use Rattle.drafts.specs.declared.row.Item.{Item}
 use Rattle.drafts.specs.declared.row.Item.TheVariants.{Nothing}
-use Rattle.drafts.specs.Tree.{Node, Nodes, none, ◌▸◌, many}
+use Rattle.drafts.specs.Tree.{Nodes, none, ◌▸◌, many}
 use Rattle.drafts.specs.Grammar.{has, ends_in, fits, set_of, least_of, most_of}
-use Rattle.drafts.specs.Plain.{◌⧺◌, all_in, Part, Parts, FallsIntoParts}
+use Rattle.drafts.specs.Plain.{◌⧺◌, all_in, Parts, FallsIntoParts}
 use Rattle.drafts.proofs.Standing.{and_left, and_right}
 use Rattle.drafts.proofs.Walks.{ends_here}
 

@@ -1,11 +1,11 @@
 -- Some rows in words.
-use Rattle.std.proofs.Common.{◌≡◌, ℕ, zero, suc, ◌+◌, ◌≤◌, Bool, true, false, ◌&&◌, ◌||◌, eqb, ltb, leb, List, get_or, sym, refl, ap, ◌∙◌, subst, arith, le-ltb, leb-true}
+use Rattle.std.proofs.Common.{◌≡◌, ℕ, ◌+◌, ◌≤◌, Bool, true, false, ◌&&◌, ◌||◌, eqb, ltb, leb, List, get_or, refl, ap, ◌∙◌, subst, arith, le-ltb, leb-true}
 use Rattle.drafts.specs.declared.row.Item.{Item}
 use Rattle.drafts.specs.declared.row.Item.TheVariants.{Nothing}
 use Rattle.drafts.specs.declared.row.Set.{Set}
 use Rattle.drafts.specs.declared.row.Set.TheVariants.{Declarator}
 use Rattle.drafts.specs.Tree.{Nodes, node, none, ◌▸◌, many}
-use Rattle.drafts.specs.Grammar.{has, first_is, fits, set_of, least_of, most_of}
+use Rattle.drafts.specs.Grammar.{has, first_is, fits}
 use Rattle.drafts.specs.Table.{row_of, rows, children_of, items_of, fewest_of}
 use Rattle.drafts.specs.Added.{allowed}
 use Rattle.drafts.specs.Plain.{◌⧺◌, all_in, Part, Parts, names_only, RowsSay}

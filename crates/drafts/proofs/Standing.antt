@@ -1,9 +1,9 @@
 -- Records that stand.
-use Rattle.std.proofs.Common.{◌≡◌, ℕ, zero, suc, ◌+◌, ◌<◌, ◌≤◌, Bool, true, false, ◌&&◌, eqb, ltb, leb, List, length, Ok, Err, Result, sym, refl, ap, ◌∙◌, subst, add-one, arith, ltb-false, ltb-true, eq-eqb, eqb-true, leb-true}
+use Rattle.std.proofs.Common.{◌≡◌, ℕ, zero, suc, ◌+◌, ◌<◌, Bool, true, false, ◌&&◌, eqb, ltb, leb, List, Ok, Err, Result, sym, refl, subst, add-one, arith, ltb-false, ltb-true, eq-eqb, eqb-true, leb-true}
 use Rattle.packed.specs.declared.refusal.Refusal.{Refusal}
 use Rattle.packed.specs.Fields.{next_at}
 use Rattle.drafts.specs.declared.record.Record.{Record}
-use Rattle.drafts.specs.Tree.{many, last_of, waiting, at, tree, Spanned}
+use Rattle.drafts.specs.Tree.{many, last_of, waiting, at, Spanned}
 use Rattle.drafts.specs.Added.{allowed, accepted, same, makes, stands, sound}
 use Rattle.drafts.proofs.Entering.{Taken, accepted_taken}
 

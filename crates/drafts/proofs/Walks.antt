@@ -1,11 +1,11 @@
 -- The walk back over the children, and what a row allows.
-use Rattle.std.proofs.Common.{◌≡◌, ℕ, zero, suc, ◌+◌, ◌-◌, ◌<◌, ◌≤◌, Bool, true, false, ◌&&◌, ◌||◌, eqb, ltb, ◌⊎◌, List, get_or, sym, refl, ap, ◌∙◌, subst, inl, inr, ⊎_elim, arith, lt-ltb, ne_eqb}
+use Rattle.std.proofs.Common.{◌≡◌, ℕ, zero, suc, ◌-◌, ◌<◌, ◌≤◌, Bool, true, false, ◌&&◌, eqb, ◌⊎◌, List, get_or, sym, refl, ap, ⊎_elim, arith, lt-ltb, ne_eqb}
 use mathlib.Core.Bool.{and-false}
 use Rattle.drafts.specs.declared.row.Item.{Item}
 use Rattle.drafts.specs.declared.row.Item.TheVariants.{Nothing}
 use Rattle.drafts.specs.declared.record.Record.{Record}
 use Rattle.drafts.specs.declared.row.Set.{Set}
-use Rattle.drafts.specs.Tree.{Node, Nodes, node, none, ◌▸◌, many, last_of, at, waiting, tree, Spanned}
+use Rattle.drafts.specs.Tree.{Node, Nodes, none, ◌▸◌, many, last_of, at, waiting, Spanned}
 use Rattle.drafts.specs.Grammar.{first_is, has, ends_in, fits, set_of, least_of, most_of}
 use Rattle.drafts.proofs.Places.{layout, some_wait, last_more}
 

@@ -1,5 +1,5 @@
 -- Trees of nodes, and how a list of records stands for them.
-use Rattle.std.specs.Prelude.{◌≡◌, ℕ, zero, suc, ◌+◌, ◌-◌, ◌<◌, ◌≤◌, List, drop, slice_index_or}
+use Rattle.std.specs.Prelude.{◌≡◌, ℕ, zero, suc, ◌+◌, ◌<◌, ◌≤◌, List, drop, slice_index_or}
 use Rattle.packed.specs.Fields.{payload_at}
 use Rattle.drafts.specs.declared.record.Record.{Record}
 use Rattle.drafts.specs.declared.record.Source.{Source}

@@ -10,7 +10,7 @@ ghost use Rattle.drafts.specs.TextRules.{text_fits};
 
 use super::draft::Draft;
 use super::record::{Record, Source};
-use super::row::row_of;
+use super::row::{Children, row_of};
 use packed::{MAX_FILE, Reason, Refusal, node_at};
 
 /// Whether there is such a kind and detail, and it may have this reference.
@@ -21,6 +21,7 @@ fn is_known(kind: u8, detail: u8, reference: u16) -> bool
 }
 
 /// Whether the row allows the text.
+#[inline(always)]
 fn is_text_allowed(kind: u8, detail: u8, count: u16, text: &[u8]) -> bool
     ensures { result ≡ text_fits (text_of (row_of kind)) detail count text.now }
 {
@@ -40,6 +41,7 @@ fn is_same(a: Record, b: Record) -> bool
 
 impl Source<'_> {
     /// Whether the row allows the last `count` nodes that wait after `end` records as children.
+    #[inline(always)]
     fn allows(self, end: usize, kind: u8, detail: u8, count: u16) -> bool
         requires spanned { SpannedIn self end }
         requires within { end ≤ length self.records.now }
@@ -47,11 +49,15 @@ impl Source<'_> {
         ensures { result ≡ allowed kind detail (last_of count (waits self.entry end)) }
     {
         let children = row_of(kind).children();
+        if let Children::Leaf = children {
+            return count == 0;
+        }
         let items = children.items();
         children.fewest() <= count && self.fits(&items, 3, detail, end, count)
     }
 
     /// Where the subtrees of the children begin, if enough nodes wait after `end` records and the row allows them.
+    #[inline(always)]
     fn children_start(self, end: usize, kind: u8, detail: u8, count: u16) -> Option<usize>
         requires spanned { SpannedIn self end }
         requires within { end ≤ length self.records.now }
@@ -66,6 +72,7 @@ impl Source<'_> {
     }
 
     /// The record that the field at `place` makes after the first `used` records, and the place of the next field.
+    #[inline(always)]
     fn accept(self, used: u16, place: usize) -> Result<(Record, usize), Refusal>
         requires spanned { SpannedIn self used }
         requires within { used ≤ length self.records.now }

@@ -8,6 +8,7 @@ use text::{is_big_int, is_utf8, number_literal};
 
 impl TextRule {
     /// Whether a node with this detail and so many children may have the text.
+    #[inline(always)]
     pub(crate) fn allows(self, detail: u8, count: u16, text: &[u8]) -> bool
         ensures { result ≡ text_fits self detail count text.now }
     {

@@ -95,7 +95,7 @@ fn check_large(rt: &impl Abort, file: &[u8], table: &mut [Record], holes: u16) -
     Ok(())
 }
 
-/// It takes some two minutes, since each `add` looks at all nodes before it.
+/// It takes some half a minute, since each `add` looks at all nodes before it.
 #[test]
 fn the_largest_draft(rt: HostRuntime) -> Result<(), Fail> {
     let file = b"\x01\x00\x06\x1f\x00\x00\x00\x00\x00\x01\x00\x06\x17\x00\xff\xfe\x00\x00";

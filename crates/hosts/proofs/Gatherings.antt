@@ -1,8 +1,8 @@
 -- One field more of those that tell of a host.
-use Rattle.std.proofs.Common.{◌≡◌, ℕ, zero, suc, ◌-◌, ◌<◌, ◌≤◌, Bool, true, false, cond, eqb, List, length, Ok, Err, Result, sym, refl, ap, ◌∙◌, arith, eq-eqb, ne_eqb}
+use Rattle.std.proofs.Common.{◌≡◌, ℕ, zero, suc, ◌-◌, ◌<◌, ◌≤◌, true, false, List, length, Ok, Err, Result, sym, refl, arith, eq-eqb, ne_eqb}
 use Rattle.packed.specs.declared.refusal.Reason.{Reason}
 use Rattle.packed.specs.declared.refusal.Refusal.{Refusal}
-use Rattle.packed.specs.Fields.{Told, has_node_tag, next_at}
+use Rattle.packed.specs.Fields.{Told, has_node_tag}
 use Rattle.packed.specs.Reading.{read_at}
 use Rattle.packed.proofs.NodesRead.{field_there}
 use Rattle.hosts.specs.Gathering.{Gathered, gathers}

@@ -1,5 +1,5 @@
 -- A host is what the fields before the first node say.
-use Rattle.std.proofs.Common.{◌≡◌, ℕ, zero, suc, ◌-◌, ◌<◌, ◌≤◌, Bool, true, false, cond, ◌&&◌, eqb, ltb, ◌⊎◌, List, [], ◌∷◌, ◌++◌, length, Ok, Err, Result, sym, refl, ap, ◌∙◌, subst, inl, inr, append_assoc, arith, le-ltb, lt-ltb, eqb-true}
+use Rattle.std.proofs.Common.{◌≡◌, ℕ, zero, suc, ◌-◌, ◌≤◌, Bool, true, false, cond, ◌&&◌, eqb, ltb, List, [], ◌∷◌, ◌++◌, length, Ok, Err, Result, sym, refl, ap, ◌∙◌, subst, inl, inr, append_assoc, arith, eqb-true}
 use Rattle.packed.specs.declared.field.Scope.{Scope}
 use Rattle.packed.specs.declared.refusal.Reason.{Reason}
 use Rattle.packed.specs.declared.refusal.Refusal.{Refusal}
@@ -8,11 +8,10 @@ use Rattle.packed.specs.Reading.{and_then, read_at}
 use Rattle.packed.proofs.Steps.{no_err, ok_same, pass}
 use Rattle.text.specs.Utf8Test.{utf8}
 use Rattle.hosts.specs.declared.switches.Switches.{Switches}
-use Rattle.hosts.specs.Host.{all_counted}
 use Rattle.hosts.specs.Scopes.{highest, scope_added}
-use Rattle.hosts.specs.Gathering.{Gathered, fresh, with_scopes, table_takes, name_takes, placed, gathers, gathered_from}
-use Rattle.hosts.specs.NameMeaning.{named, names_from, declared}
-use Rattle.hosts.specs.ByFields.{Stand, none, one, Ends, scoped, scopes_of, switched, switches_after, names_of, ByFields, MadeByFields}
+use Rattle.hosts.specs.Gathering.{Gathered, fresh, with_scopes, table_takes, name_takes, placed, gathers}
+use Rattle.hosts.specs.NameMeaning.{named, names_from}
+use Rattle.hosts.specs.ByFields.{Stand, none, one, Ends, scoped, scopes_of, switched, switches_after, names_of, MadeByFields}
 use Rattle.hosts.proofs.Gatherings.{forward}
 use Rattle.hosts.proofs.Naming.{names_end, names_more}
 

@@ -1,5 +1,5 @@
 -- What the fields before the first node tell of a host.
-use Rattle.std.specs.Prelude.{ℕ, zero, suc, Bool, cond, ◌&&◌, List, [], ◌∷◌, length, Ok, Err, Result, ◌==◌, nat_lt}
+use Rattle.std.specs.Prelude.{ℕ, zero, suc, cond, ◌&&◌, List, [], length, Ok, Err, Result, ◌==◌, nat_lt}
 use Rattle.packed.specs.declared.field.Scope.{Scope}
 use Rattle.packed.specs.declared.refusal.Reason.{Reason}
 use Rattle.packed.specs.declared.refusal.Reason.TheVariants.{WrongTag, BadText, BadSwitch, BadScope}

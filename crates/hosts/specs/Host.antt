@@ -1,5 +1,5 @@
 -- What a host means: which names are outer, which references have a type, and which switches are counted.
-use Rattle.std.specs.Prelude.{◌≡◌, ℕ, Bool, true, false, cond, List, Some, None, Ok, Err, Option, Result, ◌≢◌}
+use Rattle.std.specs.Prelude.{◌≡◌, ℕ, Bool, true, false, cond, List, Some, None, Ok, Option, Result, ◌≢◌}
 use Rattle.packed.specs.declared.value_type.ValueType.{ValueType}
 use Rattle.packed.specs.declared.switch.Switch.{Switch}
 use Rattle.packed.specs.declared.switch.Switch.TheVariants.{PropertyReads, PropertyWrites, UnknownGlobals}

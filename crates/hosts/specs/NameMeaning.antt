@@ -1,5 +1,5 @@
 -- What the name host means.
-use Rattle.std.specs.Prelude.{ℕ, zero, suc, Bool, cond, not, List, [], ◌∷◌, length, None, Ok, Err, Result, nat_lt}
+use Rattle.std.specs.Prelude.{ℕ, zero, suc, cond, not, List, [], ◌∷◌, length, None, Ok, Err, Result, nat_lt}
 use Rattle.packed.specs.declared.refusal.Refusal.{Refusal}
 use Rattle.packed.specs.Fields.{Told, node, scope, switch, name, other}
 use Rattle.packed.specs.Reading.{read_at}

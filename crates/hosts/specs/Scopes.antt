@@ -1,5 +1,5 @@
 -- Scope records in ascending order of their reference numbers.
-use Rattle.std.specs.Prelude.{ℕ, Bool, cond, List, [], ◌∷◌, ◌++◌, length, Some, None, Ok, Err, Option, Result, ◌==◌, nat_lt}
+use Rattle.std.specs.Prelude.{ℕ, cond, List, [], ◌∷◌, ◌++◌, length, Some, None, Ok, Err, Option, Result, ◌==◌, nat_lt}
 use Rattle.packed.specs.declared.field.Scope.{Scope}
 use Rattle.packed.specs.declared.refusal.Reason.{Reason}
 use Rattle.packed.specs.declared.refusal.Reason.TheVariants.{BadScope, Full}

@@ -1,29 +1,33 @@
 //! `find`, over small tables.
 
-ghost use Rattle.std.specs.Prelude.{[], ◌∷◌, codes};
+ghost use Rattle.std.specs.Prelude.{◌≡◌, [], ◌∷◌, cond, true, codes};
 ghost use Rattle.std.proofs.Common.{refl};
+ghost use Rattle.std.proofs.lemmas.Bool.{cond_both};
+ghost use Rattle.tables.specs.Order.{ascends};
 
 use std::cmp::Ordering;
 use tables::{Ascending, OrderedTable, find};
 
-/// A table without entries.
-struct Empty;
+/// A table of the number 7, or one without entries.
+struct AtMostOne {
+    has_entry: bool,
+}
 
-impl Ascending for Empty {
-    ghost keys = { λ _. [] };
+impl Ascending for AtMostOne {
+    ghost keys = { λ t. cond t.has_entry ((7 ∷ []) ∷ []) [] };
 
-    ghost ascent = { λ _. refl };
+    ghost ascent = { λ t. cond_both t.has_entry _ _ (λ ks. ascends ks ≡ true) (λ _. refl) (λ _. refl) };
 
     fn len(&self) -> usize {
-        0
+        usize::from(self.has_entry)
     }
 }
 
-impl OrderedTable<u16> for Empty {
+impl OrderedTable<u16> for AtMostOne {
     ghost sought = { λ n. n ∷ [] };
 
-    fn compare(&self, _i: usize, _key: u16) -> Ordering {
-        Ordering::Equal
+    fn compare(&self, _i: usize, key: u16) -> Ordering {
+        7u16.cmp(&key)
     }
 }
 
@@ -99,7 +103,7 @@ impl<'a> OrderedTable<&'a str> for Names {
 #[test]
 fn tables_of_numbers(rt: HostRuntime) {
     for number in [0u16, 1, 8, 9, 10, 65_535] {
-        assert_eq!(rt; find(&Empty, number), None);
+        assert_eq!(rt; find(&AtMostOne { has_entry: false }, number), None);
         assert_eq!(rt;
             find(&One, number),
             if number == 9 { Some(0) } else { None }

@@ -1,5 +1,5 @@
 -- One field more of those that decide for a host.
-use Rattle.std.proofs.Common.{◌≡◌, ℕ, zero, suc, ◌-◌, ◌≤◌, List, length, Some, None, Ok, Err, Option, unwrap_or, sym, refl, ap, ◌∙◌, arith}
+use Rattle.std.proofs.Common.{◌≡◌, ℕ, zero, suc, ◌-◌, ◌≤◌, List, length, Some, None, Ok, Err, sym, refl, arith}
 use Rattle.packed.specs.declared.refusal.Refusal.{Refusal}
 use Rattle.packed.specs.Fields.{Told}
 use Rattle.packed.specs.Reading.{read_at}

@@ -1,5 +1,5 @@
 -- What is reported of the host that a file gives.
-use Rattle.std.specs.Prelude.{ℕ, List, ◌++◌, length, Ok, Err, codes, decimal, Result}
+use Rattle.std.specs.Prelude.{ℕ, List, ◌++◌, length, Ok, codes, decimal, Result}
 use Rattle.packed.specs.declared.refusal.Refusal.{Refusal}
 use Rattle.packed.specs.Reading.{and_then}
 use Rattle.hosts.specs.Gathering.{table_takes, name_takes, gathered_from}

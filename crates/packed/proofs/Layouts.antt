@@ -1,5 +1,5 @@
 -- The reader's definition answers what a file holds.
-use Rattle.std.proofs.Common.{◌≡◌, ℕ, ◌+◌, ◌*◌, ◌≤◌, true, false, ltb, leb, List, ◌∷◌, ◌++◌, length, get_or, take, drop, IfOk, Ok, Result, sym, ap, subst, arith, length-append, length-drop, take-append-drop, length-take, get_or-append-add, le-ltb, le-leb, leb-true}
+use Rattle.std.proofs.Common.{◌≡◌, ℕ, ◌+◌, ◌≤◌, true, false, ltb, leb, List, ◌∷◌, ◌++◌, length, get_or, take, drop, IfOk, Ok, Result, sym, ap, subst, arith, length-append, length-drop, take-append-drop, length-take, get_or-append-add, le-ltb, le-leb, leb-true}
 use Rattle.std.proofs.lemmas.List.{drop_more}
 use Rattle.std.proofs.lemmas.Bool.{cond_both}
 use lib.Seq.{drop-append-add, take-append_seam}

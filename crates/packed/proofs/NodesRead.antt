@@ -1,5 +1,5 @@
 -- What stands at the place of a node that is read.
-use Rattle.std.proofs.Common.{◌≡◌, ℕ, ◌≤◌, Bool, true, false, cond, ◌&&◌, eqb, ltb, leb, List, length, get_or, drop, Some, None, Ok, Err, Option, Result, sym, refl, ap, ◌∙◌, subst, arith, ltb-false, leb-true}
+use Rattle.std.proofs.Common.{◌≡◌, ℕ, ◌≤◌, Bool, true, false, cond, ◌&&◌, eqb, ltb, leb, List, length, get_or, Some, None, Ok, Err, Option, Result, sym, refl, ap, ◌∙◌, arith, ltb-false, leb-true}
 use Rattle.packed.specs.declared.field.Scope.{Scope}
 use Rattle.packed.specs.declared.switch.Switch.{Switch}
 use Rattle.packed.specs.Switches.{switch_of}

@@ -43,6 +43,7 @@ impl Field<'_> {
     }
 }
 
+#[inline(always)]
 fn field_of(tag: u8, payload: &[u8]) -> Field<'_>
     ensures { told result ≡ field_of tag payload.now }
 {
@@ -97,6 +98,7 @@ fn take_field(file: &[u8], place: usize) -> (Field<'_>, usize)
 }
 
 /// `read_field`, without the law.
+#[inline(always)]
 pub(crate) fn field_at(file: &[u8], place: usize) -> Result<(Field<'_>, usize), Refusal>
     ensures { said result ≡ read_at file.now place }
 {

@@ -1,5 +1,5 @@
 -- The kinds, and their two numbers in the format.
-use Rattle.std.specs.Prelude.{ℕ, Bool, true, false, cond, ◌&&◌, Some, None, Option, ◌==◌, nat_lt}
+use Rattle.std.specs.Prelude.{ℕ, Bool, true, false, cond, Some, None, Option, ◌==◌, nat_lt}
 use Rattle.std.specs.Option.{option_map}
 use Rattle.rules.specs.declared.kind.Kind.{Kind}
 use Rattle.rules.specs.declared.kind.Kind.TheVariants.{Identifier, NullLiteral, BooleanLiteral, RegExpLiteral, ImportMeta, NewTarget, Super, NumericLiteral, BigIntLiteral, StringLiteral, TemplateLiteral, UnaryExpression, UpdateExpression, BinaryExpression, LogicalExpression, AssignmentExpression, ConditionalExpression, SequenceExpression, ParenthesizedExpression, TypeScriptExpression, ArrayExpression, ObjectExpression, StaticMemberExpression, ComputedMemberExpression, PrivateFieldExpression, PrivateInExpression, ChainExpression, CallExpression, CallLike, FunctionExpression, ArrowFunctionExpression, ClassExpression, SpreadElement, Elision, ObjectProperty, SpreadProperty, Decorator, MethodDefinition, PropertyDefinition, StaticBlock, AssignmentTargetPattern, VariableDeclarator, SwitchCase, CatchClause, BindingIdentifier, ArrayPattern, ObjectPattern, AssignmentPattern, BindingProperty, BindingRestElement, BlockStatement, ExpressionStatement, WhileStatement, DoWhileStatement, IfStatement, LabeledStatement, ReturnStatement, SwitchStatement, TryStatement, EmptyStatement, ActingStatement, VariableDeclaration, FunctionDeclaration, ClassDeclaration}

@@ -1,5 +1,5 @@
 -- Conversions of primitive values, as ECMA-262 has them.
-use Rattle.std.specs.Prelude.{Bool, true, false, cond, not, ◌&&◌, ◌||◌, List, [], ◌∷◌, Some, None, Option}
+use Rattle.std.specs.Prelude.{Bool, true, false, cond, ◌&&◌, ◌||◌, List, [], ◌∷◌, Some, None, Option}
 use Rattle.rules.specs.declared.to_primitive.ToPrimitiveResult.{ToPrimitiveResult}
 use Rattle.rules.specs.declared.to_primitive.ToPrimitiveResult.TheVariants.{Undefined, Null, Number, BigInt, String, Boolean, Symbol, Undetermined}
 use Rattle.rules.specs.declared.to_numeric.ToNumericResult.{ToNumericResult}

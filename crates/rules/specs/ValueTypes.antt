@@ -10,7 +10,7 @@ use Rattle.rules.specs.declared.to_primitive.ToPrimitiveResult as primitive-type
 use Rattle.rules.specs.declared.to_numeric.ToNumericResult.{ToNumericResult}
 use Rattle.rules.specs.declared.to_numeric.ToNumericResult as class
 use Rattle.rules.specs.Syntax.{identifier, leaf, number, big_int, string, template, unary, binary, logical, assignment, conditional, sequence, parenthesized, wrapper, array, object, static_member, private_in, function, class_expression, property, object_spread, null_literal, boolean, regular_expression, import_meta, negation, plus, logical_not, bitwise_not, typeof, void, delete, addition, unsigned_shift, subtraction, bitwise_and, coalesce, assign, assign_addition, assign_unsigned_shift, assign_logical}
-use Rattle.rules.specs.Marks.{Mark, Marks, mark, start, ◌▹◌, kind, detail, reference, text, type, children, is, is_as, reads, one_of, only, pair, three, on, first, last, last_type, childless}
+use Rattle.rules.specs.Marks.{Mark, Marks, mark, start, ◌▹◌, reference, text, type, is, reads, one_of, only, pair, three, on, last_type, childless}
 use Rattle.rules.specs.Primitives.{numeric_class, surely, is_string}
 
 -- the number of a type, and whether two types are one

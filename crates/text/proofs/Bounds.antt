@@ -1,5 +1,5 @@
 -- The bit patterns of number literals are those up to infinity's.
-use Rattle.std.proofs.Common.{◌≡◌, ℕ, ◌%◌, ◌^◌, ◌<◌, ◌≤◌, Bool, true, false, not, ◌&&◌, ltb, sym, refl, ap, ◌∙◌, arith, ltb-false, ltb-true, le-ltb, lt-ltb}
+use Rattle.std.proofs.Common.{◌≡◌, ℕ, ◌%◌, ◌^◌, ◌<◌, ◌≤◌, Bool, true, false, not, ◌&&◌, ltb, sym, refl, ◌∙◌, arith, ltb-true, le-ltb, lt-ltb}
 use mathlib.Core.Bool.{and-false}
 use lib.Ieee.{binary64, of_bits, is_nan, nan_bits}
 use lib.Ieee.Bits.{nan_bits_is, nan_bits_above}

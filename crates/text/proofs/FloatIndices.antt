@@ -1,5 +1,5 @@
 -- A float that is a `u32`, found by the bits of the nearest one.
-use Rattle.std.proofs.Common.{◌≡◌, ℕ, ◌^◌, ◌<◌, ◌≤◌, Bool, true, false, cond, not, T, leb, pos, Some, None, Option, sym, refl, ap, ◌∙◌, subst, arith}
+use Rattle.std.proofs.Common.{◌≡◌, ℕ, ◌^◌, ◌<◌, Bool, true, false, cond, not, T, leb, pos, Some, None, sym, refl, ap, ◌∙◌, subst, arith}
 use lib.Ieee.{Float, nan, inf, fin, binary64, fits, is_nan, to_bits, of_bits, of_int, in_float, in_unsigned, to_unsigned}
 use lib.Ieee.Bits.{of_bits-to_bits, is_true}
 use lib.Ieee.Back.{unsigned_back, Float-back_unsigned}

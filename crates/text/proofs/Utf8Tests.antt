@@ -1,5 +1,5 @@
 -- UTF-8 as a test.
-use Rattle.std.proofs.Common.{◌≡◌, ℕ, Bool, true, false, ◌&&◌, List, IsUtf8, sym, refl, arith, rules}
+use Rattle.std.proofs.Common.{◌≡◌, ℕ, Bool, true, false, ◌&&◌, List, IsUtf8, refl, rules}
 use lib.Utf8.{encodes, scalars}
 use Rattle.std.specs.Str.{chars, bytes_eq}
 use Rattle.std.proofs.lemmas.Str.{encodes-chars, scalars-chars}

@@ -1,5 +1,4 @@
-use Rattle.std.proofs.Common.{◌≡◌, Some, None, arith}
-use Rattle.tables.specs.Order.{position}
+use Rattle.std.proofs.Common.{arith}
 use Rattle.tables.proofs.Ascent.{below_more, above_more, position_found, position_missing, located}
 use Rattle.tables.proofs.search.find.Goals as goal
 

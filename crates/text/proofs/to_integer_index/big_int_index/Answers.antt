@@ -1,4 +1,4 @@
-use Rattle.std.proofs.Common.{◌≡◌, eqb, get_or, sym, ap, ◌∙◌}
+use Rattle.std.proofs.Common.{eqb, get_or, sym, ap, ◌∙◌}
 use Rattle.std.proofs.lemmas.Bool.{eqb-false}
 use Rattle.text.proofs.DigitIndices.{digits_index_is}
 use Rattle.text.proofs.to_integer_index.big_int_index.Goals as goal

@@ -1,4 +1,4 @@
-use Rattle.std.proofs.Common.{◌≡◌, ℕ, ◌-◌, ◌<◌, Bool, get_or, sym, ap, ◌∙◌, inl, inr, arith}
+use Rattle.std.proofs.Common.{◌-◌, ◌<◌, Bool, get_or, sym, ap, ◌∙◌, inl, inr, arith}
 use Rattle.drafts.specs.declared.row.Item.TheVariants.{Nothing}
 use Rattle.drafts.specs.declared.row.Set.{Set}
 use Rattle.drafts.specs.Tree.{Nodes, many, waiting, last_of, tree, at}

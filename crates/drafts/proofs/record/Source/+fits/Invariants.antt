@@ -1,5 +1,4 @@
-use Rattle.std.proofs.Common.{◌≡◌, ◌-◌, ◌<◌, ◌≤◌, get_or}
-use Rattle.drafts.specs.declared.row.Item.TheVariants.{Nothing}
+use Rattle.std.proofs.Common.{◌≡◌, ◌-◌, ◌≤◌}
 use Rattle.drafts.specs.Tree.{many, waiting, last_of}
 use Rattle.drafts.specs.Grammar.{fits, ends_in, set_of}
 use Rattle.drafts.proofs.record.Source.+fits.Given as goal

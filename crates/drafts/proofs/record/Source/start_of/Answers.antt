@@ -1,4 +1,4 @@
-use Rattle.std.proofs.Common.{◌<◌, ◌≤◌, arith}
+use Rattle.std.proofs.Common.{◌<◌, arith}
 use Rattle.drafts.specs.Tree.{Spanned}
 use Rattle.drafts.proofs.Places.{span_fits, many_step, size_step, spanned_less}
 use Rattle.drafts.proofs.record.Source.start_of.Goals as goal

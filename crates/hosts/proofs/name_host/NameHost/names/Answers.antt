@@ -1,6 +1,5 @@
-use Rattle.std.proofs.Common.{◌≡◌, ◌+◌, length, sym, refl, ap, ◌∙◌, arith}
+use Rattle.std.proofs.Common.{length, ap, arith}
 use Rattle.packed.specs.Fields.{told}
-use Rattle.hosts.specs.NameMeaning.{names_from}
 use Rattle.hosts.proofs.Gatherings.{forward}
 use Rattle.hosts.proofs.Naming.{names_end, names_cut, one_name, no_name}
 use Rattle.hosts.proofs.name_host.NameHost.names.Goals as goal

@@ -1,4 +1,4 @@
-use Rattle.std.proofs.Common.{◌≡◌, [], ◌∷◌, vec_items, sym, ap, ◌∙◌, arith}
+use Rattle.std.proofs.Common.{[], ◌∷◌, vec_items, sym, ap, ◌∙◌, arith}
 use Rattle.tables.specs.Order.{order}
 use Rattle.hosts.proofs.Records.{length_keys, key_at, order_numbers}
 use Rattle.hosts.proofs.scope_table.ScopeTableOrderedTableU16.compare.Goals as goal
