@@ -109,6 +109,7 @@ fn tables_of_numbers(rt: HostRuntime) {
             if number == 9 { Some(0) } else { None }
         );
     }
+    assert_eq!(rt; find(&AtMostOne { has_entry: true }, 7), Some(0));
     for (i, number) in NUMBERS.iter().enumerate() {
         assert_eq!(rt; find(&Numbers, *number), Some(i));
     }
