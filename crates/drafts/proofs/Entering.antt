@@ -1,7 +1,6 @@
 -- A field that is accepted, and the record that it makes.
-use Rattle.std.proofs.Common.{◌≡◌, ℕ, zero, suc, ◌+◌, ◌-◌, ◌<◌, ◌≤◌, Bool, true, false, cond, not, ◌&&◌, eqb, ltb, leb, List, length, get_or, Some, None, Ok, Err, Result, sym, refl, ap, ◌∙◌, subst, arith, ltb-true, lt-ltb, ne_eqb, le-leb}
+use Rattle.std.proofs.Common.{◌≡◌, ℕ, zero, suc, ◌+◌, ◌-◌, ◌<◌, ◌≤◌, Bool, true, false, cond, not, eqb, ltb, List, length, get_or, Some, None, Ok, Err, Result, sym, refl, ap, ◌∙◌, subst, arith, ltb-true, lt-ltb, ne_eqb, le-leb}
 use borrow.Author.Tests.{lt-leb}
-use mathlib.Core.Bool.{and-false}
 use Rattle.packed.specs.declared.refusal.Refusal.{Refusal}
 use Rattle.packed.specs.Fields.{Told, node, payload_at, next_at, word_at}
 use Rattle.packed.specs.Reading.{and_then, node_at}
@@ -32,15 +31,11 @@ module _ (children : Children) (ws : Nodes) (kind detail count fewest : ℕ) (en
   unfolding allowed
   allows_not l = let m = many_last count ws enough in rw (sym e, sym f, m, lt-leb fewest count l)
 
--- without items, exactly no children are allowed
-bare : (k : ℕ) (ws : Nodes) (d : ℕ) → k ≤ many ws → eqb k 0 ≡ (leb (fewest_of Leaf) (many (last_of k ws)) && fits (items_of Leaf) d 3 (last_of k ws))
-bare zero ws d h = refl
-bare (suc k) none d h = absurd (omega arith)
-bare (suc k) (ws ▸ n) d h = ne_eqb (suc k) 0 (omega arith) ∙ sym (and-false _)
-
-pub allows_bare : (k kind detail : ℕ) (ws : Nodes) → Leaf ≡ children_of (row_of kind) → k ≤ many ws → eqb k 0 ≡ allowed kind detail (last_of k ws)
-unfolding allowed
-allows_bare k kind detail ws e h = rw (← e) (bare k ws detail h)
+-- the items of a row without children allow exactly no nodes
+pub leaf_fits : (k detail : ℕ) (ws : Nodes) → k ≤ many ws → eqb k 0 ≡ fits (items_of Leaf) detail 3 (last_of k ws)
+leaf_fits zero detail ws h = refl
+leaf_fits (suc k) detail none h = absurd (omega arith)
+leaf_fits (suc k) detail (ws ▸ n) h = ne_eqb (suc k) 0 (omega arith)
 
 some_cond : (b : Bool) (x y : ℕ) → Some x ≡ cond b (Some y) None → (b ≡ true) × (x ≡ y)
 some_cond true x y e = (refl, cc)

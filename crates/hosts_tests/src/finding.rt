@@ -8,13 +8,13 @@ ghost use Rattle.tables.specs.Order.{ascends};
 use std::cmp::Ordering;
 use tables::{Ascending, OrderedTable, find};
 
-/// A table of the number 7, or one without entries.
+/// A table of the number 9, or one without entries.
 struct AtMostOne {
     has_entry: bool,
 }
 
 impl Ascending for AtMostOne {
-    ghost keys = { λ t. cond t.has_entry ((7 ∷ []) ∷ []) [] };
+    ghost keys = { λ t. cond t.has_entry ((9 ∷ []) ∷ []) [] };
 
     ghost ascent = { λ t. cond_both t.has_entry _ _ (λ ks. ascends ks ≡ true) (λ _. refl) (λ _. refl) };
 
@@ -24,27 +24,6 @@ impl Ascending for AtMostOne {
 }
 
 impl OrderedTable<u16> for AtMostOne {
-    ghost sought = { λ n. n ∷ [] };
-
-    fn compare(&self, _i: usize, key: u16) -> Ordering {
-        7u16.cmp(&key)
-    }
-}
-
-/// The table of the number 9.
-struct One;
-
-impl Ascending for One {
-    ghost keys = { λ _. (9 ∷ []) ∷ [] };
-
-    ghost ascent = { λ _. refl };
-
-    fn len(&self) -> usize {
-        1
-    }
-}
-
-impl OrderedTable<u16> for One {
     ghost sought = { λ n. n ∷ [] };
 
     fn compare(&self, _i: usize, key: u16) -> Ordering {
@@ -105,11 +84,10 @@ fn tables_of_numbers(rt: HostRuntime) {
     for number in [0u16, 1, 8, 9, 10, 65_535] {
         assert_eq!(rt; find(&AtMostOne { has_entry: false }, number), None);
         assert_eq!(rt;
-            find(&One, number),
+            find(&AtMostOne { has_entry: true }, number),
             if number == 9 { Some(0) } else { None }
         );
     }
-    assert_eq!(rt; find(&AtMostOne { has_entry: true }, 7), Some(0));
     for (i, number) in NUMBERS.iter().enumerate() {
         assert_eq!(rt; find(&Numbers, *number), Some(i));
     }
