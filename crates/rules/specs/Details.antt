@@ -1,5 +1,6 @@
--- The numbers of details: operators and the like, in the format's order.
-use Rattle.std.specs.Prelude.{ℕ, cond, Some, None, Option, ◌==◌}
+-- The numbers of details: operators and the like, each list in the format's order, from 0 on.
+use Rattle.std.specs.Prelude.{ℕ, ◌+◌, ◌*◌, Bool, true, false, not, List, [], ◌∷◌, Option, slice_get, ◌==◌, bit_and, nat_lt}
+use Rattle.std.specs.Bool.{then_some}
 use Rattle.rules.specs.declared.detail.UnaryOperator.{UnaryOperator}
 use Rattle.rules.specs.declared.detail.UnaryOperator as unary
 use Rattle.rules.specs.declared.detail.BinaryOperator.{BinaryOperator}
@@ -14,17 +15,17 @@ use Rattle.rules.specs.declared.detail.PropertyKind.{PropertyKind}
 use Rattle.rules.specs.declared.detail.PropertyKind as property
 use Rattle.rules.specs.declared.detail.VariableDeclarationKind.{VariableDeclarationKind}
 use Rattle.rules.specs.declared.detail.VariableDeclarationKind as declared
+use Rattle.rules.specs.declared.detail.Modifiers.{Modifiers}
+
+abbrev pub unary_operators : List UnaryOperator
+unary_operators =
+    unary.TheVariants.UnaryNegation ∷ unary.TheVariants.UnaryPlus ∷ unary.TheVariants.LogicalNot ∷
+    unary.TheVariants.BitwiseNot ∷ unary.TheVariants.Typeof ∷ unary.TheVariants.Void ∷ unary.TheVariants.Delete ∷ []
 
 abbrev pub unary_of : ℕ → Option UnaryOperator
-unary_of n =
-    cond (n == 0) (Some unary.TheVariants.UnaryNegation)
-    (cond (n == 1) (Some unary.TheVariants.UnaryPlus)
-    (cond (n == 2) (Some unary.TheVariants.LogicalNot)
-    (cond (n == 3) (Some unary.TheVariants.BitwiseNot)
-    (cond (n == 4) (Some unary.TheVariants.Typeof)
-    (cond (n == 5) (Some unary.TheVariants.Void)
-    (cond (n == 6) (Some unary.TheVariants.Delete) None))))))
+unary_of n = slice_get unary_operators n
 
+-- the number of each, by cases: as a place in the list it would need a test of equality for each type
 abbrev pub unary_number : UnaryOperator → ℕ
 unary_number unary.TheVariants.UnaryNegation = 0
 unary_number unary.TheVariants.UnaryPlus = 1
@@ -34,30 +35,18 @@ unary_number unary.TheVariants.Typeof = 4
 unary_number unary.TheVariants.Void = 5
 unary_number unary.TheVariants.Delete = 6
 
+abbrev pub binary_operators : List BinaryOperator
+binary_operators =
+    binary.TheVariants.Equality ∷ binary.TheVariants.Inequality ∷ binary.TheVariants.StrictEquality ∷
+    binary.TheVariants.StrictInequality ∷ binary.TheVariants.LessThan ∷ binary.TheVariants.LessEqualThan ∷
+    binary.TheVariants.GreaterThan ∷ binary.TheVariants.GreaterEqualThan ∷ binary.TheVariants.Addition ∷
+    binary.TheVariants.Subtraction ∷ binary.TheVariants.Multiplication ∷ binary.TheVariants.Division ∷
+    binary.TheVariants.Remainder ∷ binary.TheVariants.Exponential ∷ binary.TheVariants.ShiftLeft ∷
+    binary.TheVariants.ShiftRight ∷ binary.TheVariants.ShiftRightZeroFill ∷ binary.TheVariants.BitwiseOR ∷
+    binary.TheVariants.BitwiseXOR ∷ binary.TheVariants.BitwiseAnd ∷ binary.TheVariants.In ∷ binary.TheVariants.Instanceof ∷ []
+
 abbrev pub binary_of : ℕ → Option BinaryOperator
-binary_of n =
-    cond (n == 0) (Some binary.TheVariants.Equality)
-    (cond (n == 1) (Some binary.TheVariants.Inequality)
-    (cond (n == 2) (Some binary.TheVariants.StrictEquality)
-    (cond (n == 3) (Some binary.TheVariants.StrictInequality)
-    (cond (n == 4) (Some binary.TheVariants.LessThan)
-    (cond (n == 5) (Some binary.TheVariants.LessEqualThan)
-    (cond (n == 6) (Some binary.TheVariants.GreaterThan)
-    (cond (n == 7) (Some binary.TheVariants.GreaterEqualThan)
-    (cond (n == 8) (Some binary.TheVariants.Addition)
-    (cond (n == 9) (Some binary.TheVariants.Subtraction)
-    (cond (n == 10) (Some binary.TheVariants.Multiplication)
-    (cond (n == 11) (Some binary.TheVariants.Division)
-    (cond (n == 12) (Some binary.TheVariants.Remainder)
-    (cond (n == 13) (Some binary.TheVariants.Exponential)
-    (cond (n == 14) (Some binary.TheVariants.ShiftLeft)
-    (cond (n == 15) (Some binary.TheVariants.ShiftRight)
-    (cond (n == 16) (Some binary.TheVariants.ShiftRightZeroFill)
-    (cond (n == 17) (Some binary.TheVariants.BitwiseOR)
-    (cond (n == 18) (Some binary.TheVariants.BitwiseXOR)
-    (cond (n == 19) (Some binary.TheVariants.BitwiseAnd)
-    (cond (n == 20) (Some binary.TheVariants.In)
-    (cond (n == 21) (Some binary.TheVariants.Instanceof) None)))))))))))))))))))))
+binary_of n = slice_get binary_operators n
 
 abbrev pub binary_number : BinaryOperator → ℕ
 binary_number binary.TheVariants.Equality = 0
@@ -83,35 +72,29 @@ binary_number binary.TheVariants.BitwiseAnd = 19
 binary_number binary.TheVariants.In = 20
 binary_number binary.TheVariants.Instanceof = 21
 
+abbrev pub logical_operators : List LogicalOperator
+logical_operators =
+    logical.TheVariants.And ∷ logical.TheVariants.Or ∷ logical.TheVariants.Coalesce ∷ []
+
 abbrev pub logical_of : ℕ → Option LogicalOperator
-logical_of n =
-    cond (n == 0) (Some logical.TheVariants.And)
-    (cond (n == 1) (Some logical.TheVariants.Or)
-    (cond (n == 2) (Some logical.TheVariants.Coalesce) None))
+logical_of n = slice_get logical_operators n
 
 abbrev pub logical_number : LogicalOperator → ℕ
 logical_number logical.TheVariants.And = 0
 logical_number logical.TheVariants.Or = 1
 logical_number logical.TheVariants.Coalesce = 2
 
+abbrev pub assignment_operators : List AssignmentOperator
+assignment_operators =
+    assignment.TheVariants.Assign ∷ assignment.TheVariants.Addition ∷ assignment.TheVariants.Subtraction ∷
+    assignment.TheVariants.Multiplication ∷ assignment.TheVariants.Division ∷ assignment.TheVariants.Remainder ∷
+    assignment.TheVariants.Exponential ∷ assignment.TheVariants.ShiftLeft ∷ assignment.TheVariants.ShiftRight ∷
+    assignment.TheVariants.ShiftRightZeroFill ∷ assignment.TheVariants.BitwiseOR ∷ assignment.TheVariants.BitwiseXOR ∷
+    assignment.TheVariants.BitwiseAnd ∷ assignment.TheVariants.LogicalAnd ∷ assignment.TheVariants.LogicalOr ∷
+    assignment.TheVariants.LogicalNullish ∷ []
+
 abbrev pub assignment_of : ℕ → Option AssignmentOperator
-assignment_of n =
-    cond (n == 0) (Some assignment.TheVariants.Assign)
-    (cond (n == 1) (Some assignment.TheVariants.Addition)
-    (cond (n == 2) (Some assignment.TheVariants.Subtraction)
-    (cond (n == 3) (Some assignment.TheVariants.Multiplication)
-    (cond (n == 4) (Some assignment.TheVariants.Division)
-    (cond (n == 5) (Some assignment.TheVariants.Remainder)
-    (cond (n == 6) (Some assignment.TheVariants.Exponential)
-    (cond (n == 7) (Some assignment.TheVariants.ShiftLeft)
-    (cond (n == 8) (Some assignment.TheVariants.ShiftRight)
-    (cond (n == 9) (Some assignment.TheVariants.ShiftRightZeroFill)
-    (cond (n == 10) (Some assignment.TheVariants.BitwiseOR)
-    (cond (n == 11) (Some assignment.TheVariants.BitwiseXOR)
-    (cond (n == 12) (Some assignment.TheVariants.BitwiseAnd)
-    (cond (n == 13) (Some assignment.TheVariants.LogicalAnd)
-    (cond (n == 14) (Some assignment.TheVariants.LogicalOr)
-    (cond (n == 15) (Some assignment.TheVariants.LogicalNullish) None)))))))))))))))
+assignment_of n = slice_get assignment_operators n
 
 abbrev pub assignment_number : AssignmentOperator → ℕ
 assignment_number assignment.TheVariants.Assign = 0
@@ -131,13 +114,13 @@ assignment_number assignment.TheVariants.LogicalAnd = 13
 assignment_number assignment.TheVariants.LogicalOr = 14
 assignment_number assignment.TheVariants.LogicalNullish = 15
 
+abbrev pub wrappers : List TypeScriptWrapper
+wrappers =
+    wrapper.TheVariants.As ∷ wrapper.TheVariants.Satisfies ∷ wrapper.TheVariants.TypeAssertion ∷ wrapper.TheVariants.NonNull ∷
+    wrapper.TheVariants.Instantiation ∷ []
+
 abbrev pub wrapper_of : ℕ → Option TypeScriptWrapper
-wrapper_of n =
-    cond (n == 0) (Some wrapper.TheVariants.As)
-    (cond (n == 1) (Some wrapper.TheVariants.Satisfies)
-    (cond (n == 2) (Some wrapper.TheVariants.TypeAssertion)
-    (cond (n == 3) (Some wrapper.TheVariants.NonNull)
-    (cond (n == 4) (Some wrapper.TheVariants.Instantiation) None))))
+wrapper_of n = slice_get wrappers n
 
 abbrev pub wrapper_number : TypeScriptWrapper → ℕ
 wrapper_number wrapper.TheVariants.As = 0
@@ -146,24 +129,25 @@ wrapper_number wrapper.TheVariants.TypeAssertion = 2
 wrapper_number wrapper.TheVariants.NonNull = 3
 wrapper_number wrapper.TheVariants.Instantiation = 4
 
+abbrev pub property_kinds : List PropertyKind
+property_kinds =
+    property.TheVariants.Init ∷ property.TheVariants.Get ∷ property.TheVariants.Set ∷ []
+
 abbrev pub property_of : ℕ → Option PropertyKind
-property_of n =
-    cond (n == 0) (Some property.TheVariants.Init)
-    (cond (n == 1) (Some property.TheVariants.Get)
-    (cond (n == 2) (Some property.TheVariants.Set) None))
+property_of n = slice_get property_kinds n
 
 abbrev pub property_number : PropertyKind → ℕ
 property_number property.TheVariants.Init = 0
 property_number property.TheVariants.Get = 1
 property_number property.TheVariants.Set = 2
 
+abbrev pub declaration_kinds : List VariableDeclarationKind
+declaration_kinds =
+    declared.TheVariants.Var ∷ declared.TheVariants.Let ∷ declared.TheVariants.Const ∷ declared.TheVariants.Using ∷
+    declared.TheVariants.AwaitUsing ∷ []
+
 abbrev pub declared_of : ℕ → Option VariableDeclarationKind
-declared_of n =
-    cond (n == 0) (Some declared.TheVariants.Var)
-    (cond (n == 1) (Some declared.TheVariants.Let)
-    (cond (n == 2) (Some declared.TheVariants.Const)
-    (cond (n == 3) (Some declared.TheVariants.Using)
-    (cond (n == 4) (Some declared.TheVariants.AwaitUsing) None))))
+declared_of n = slice_get declaration_kinds n
 
 abbrev pub declared_number : VariableDeclarationKind → ℕ
 declared_number declared.TheVariants.Var = 0
@@ -171,3 +155,25 @@ declared_number declared.TheVariants.Let = 1
 declared_number declared.TheVariants.Const = 2
 declared_number declared.TheVariants.Using = 3
 declared_number declared.TheVariants.AwaitUsing = 4
+
+abbrev pub flags : List Bool
+flags = false ∷ true ∷ []
+
+abbrev pub flag_of : ℕ → Option Bool
+flag_of n = slice_get flags n
+
+abbrev pub flag : Bool → ℕ
+flag false = 0
+flag true = 1
+
+-- the bits of a field
+abbrev pub has_bit : ℕ → ℕ → Bool
+has_bit bit d = not (bit_and d bit == 0)
+
+-- a field has four bits
+abbrev pub modifiers_of : ℕ → Option Modifiers
+modifiers_of n =
+    then_some (nat_lt n 16) (record { is_static = has_bit 1 n; is_accessor = has_bit 2 n; has_key = has_bit 4 n; has_value = has_bit 8 n })
+
+abbrev pub modifiers_number : Modifiers → ℕ
+modifiers_number m = flag m.is_static + 2 * flag m.is_accessor + 4 * flag m.has_key + 8 * flag m.has_value

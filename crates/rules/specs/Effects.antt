@@ -1,5 +1,5 @@
 -- Whether a node has effects.
-use Rattle.std.specs.Prelude.{ℕ, ◌+◌, Bool, true, false, cond, not, ◌&&◌, ◌||◌, List, [], ◌∷◌, map, length, codes, Option, ◌==◌, bit_and, nat_le, nat_lt}
+use Rattle.std.specs.Prelude.{ℕ, ◌+◌, Bool, true, false, cond, not, ◌&&◌, ◌||◌, List, [], ◌∷◌, map, length, codes, Option, ◌==◌, nat_le, nat_lt}
 use Rattle.std.specs.Str.{bytes_eq, chars}
 use Rattle.packed.specs.declared.value_type.ValueType.{ValueType}
 use Rattle.packed.specs.declared.value_type.ValueType.TheVariants.{String, Object, Undetermined}
@@ -11,6 +11,7 @@ use Rattle.known_globals.specs.Constructors.{known_constructors}
 use Rattle.known_globals.specs.Properties.{known_property, known_property_deep}
 use Rattle.hosts.specs.Host.{Host}
 use Rattle.drafts.specs.Tree.{Header, Node, Nodes, node, none, ◌▸◌}
+use Rattle.rules.specs.Details.{has_bit}
 use Rattle.rules.specs.Syntax.{identifier, leaf, number, big_int, string, template, unary, binary, logical, assignment, conditional, sequence, parenthesized, wrapper, array, object, static_member, computed_member, private_member, private_in, chain, function, class_expression, spread, hole, property, object_spread, decorator, method, field, static_block, declarator, switch_case, catch_clause, binding, array_pattern, object_pattern, default_pattern, pattern_property, rest, block, expression_statement, loop, if_statement, label, return_statement, switch_statement, try_statement, empty_statement, variables, function_declaration, class_declaration, boolean, import_meta, plus, typeof, delete, negation, bitwise_not, not_equal, strictly_not_equal, less, at_most, at_least, addition, division, remainder, exponential, unsigned_shift, instance_of, and_operator, coalesce, assign, getter, arrow, with_using, with_await_using}
 use Rattle.rules.specs.Marks.{Mark, Marks, mark, start, ◌▹◌, kind, detail, text, effect, type, children, is, is_as, reads, one_of, only, pair, three, on, any_by, any, childless, single, first, all_but_last}
 use Rattle.rules.specs.Primitives.{refuses, to_number, to_numeric, to_string}
@@ -240,10 +241,6 @@ element_effects m = is decorator m || effect m
 
 abbrev pub class_effects : Host → ℕ → Marks → Bool
 class_effects h d below = any_by element_effects below || (d == 1 && on true (first below) (never h))
-
--- the bits of a field
-abbrev pub has_bit : ℕ → ℕ → Bool
-has_bit bit d = not (bit_and d bit == 0)
 
 -- a static key that is `prototype`, by a string or a template without expressions
 abbrev pub is_prototype : Mark → Bool

@@ -1,109 +1,93 @@
 -- The kinds, and their two numbers in the format.
-use Rattle.std.specs.Prelude.{ℕ, Bool, true, false, cond, Some, None, Option, ◌==◌, nat_lt}
-use Rattle.std.specs.Option.{option_map}
+use Rattle.std.specs.Prelude.{◌≡◌, ℕ, cond, List, [], ◌∷◌, None, Option, slice_get, Result, ◌==◌, nat_lt}
+use Rattle.std.specs.Option.{option_map, ok_or}
 use Rattle.rules.specs.declared.kind.Kind.{Kind}
+use Rattle.rules.specs.declared.kind.UnknownKind.{UnknownKind}
 use Rattle.rules.specs.declared.kind.Kind.TheVariants.{Identifier, NullLiteral, BooleanLiteral, RegExpLiteral, ImportMeta, NewTarget, Super, NumericLiteral, BigIntLiteral, StringLiteral, TemplateLiteral, UnaryExpression, UpdateExpression, BinaryExpression, LogicalExpression, AssignmentExpression, ConditionalExpression, SequenceExpression, ParenthesizedExpression, TypeScriptExpression, ArrayExpression, ObjectExpression, StaticMemberExpression, ComputedMemberExpression, PrivateFieldExpression, PrivateInExpression, ChainExpression, CallExpression, CallLike, FunctionExpression, ArrowFunctionExpression, ClassExpression, SpreadElement, Elision, ObjectProperty, SpreadProperty, Decorator, MethodDefinition, PropertyDefinition, StaticBlock, AssignmentTargetPattern, VariableDeclarator, SwitchCase, CatchClause, BindingIdentifier, ArrayPattern, ObjectPattern, AssignmentPattern, BindingProperty, BindingRestElement, BlockStatement, ExpressionStatement, WhileStatement, DoWhileStatement, IfStatement, LabeledStatement, ReturnStatement, SwitchStatement, TryStatement, EmptyStatement, ActingStatement, VariableDeclaration, FunctionDeclaration, ClassDeclaration}
-use Rattle.rules.specs.Details.{unary_of, unary_number, binary_of, binary_number, logical_of, logical_number, assignment_of, assignment_number, wrapper_of, wrapper_number, property_of, property_number, declared_of, declared_number}
+use Rattle.rules.specs.Details.{unary_of, unary_number, binary_of, binary_number, logical_of, logical_number, assignment_of, assignment_number, wrapper_of, wrapper_number, property_of, property_number, declared_of, declared_number, flag_of, flag, modifiers_of, modifiers_number}
 
--- a kind without details
-abbrev pub bare : ℕ → Kind → Option Kind
-bare d k = cond (d == 0) (Some k) None
-
--- a kind of two details
-abbrev pub two_of : ℕ → Kind → Kind → Option Kind
-two_of d zero one = cond (d == 0) (Some zero) (cond (d == 1) (Some one) None)
-
-abbrev pub leaf_of : ℕ → Option Kind
-leaf_of d =
-    cond (d == 0) (Some NullLiteral)
-    (cond (d == 1) (Some BooleanLiteral)
-    (cond (d == 2) (Some RegExpLiteral)
-    (cond (d == 3) (Some ImportMeta)
-    (cond (d == 4) (Some NewTarget)
-    (cond (d == 5) (Some Super) None)))))
-
--- a field has four bits
-abbrev pub field_of : ℕ → Option Kind
-field_of d = cond (nat_lt d 16) (Some (PropertyDefinition (record { bits = d }))) None
+-- the kind of this detail among those listed, from detail 0 on
+abbrev pub nth : ℕ → List Kind → Option Kind
+nth d kinds = slice_get kinds d
 
 abbrev pub primary_of : ℕ → ℕ → Option Kind
 primary_of k d =
-    cond (k == 1) (bare d Identifier)
-    (cond (k == 2) (leaf_of d)
-    (cond (k == 3) (bare d NumericLiteral)
-    (cond (k == 4) (bare d BigIntLiteral)
-    (cond (k == 5) (bare d StringLiteral)
-    (cond (k == 6) (bare d TemplateLiteral) None)))))
+    cond (k == 1) (nth d (Identifier ∷ []))
+    (cond (k == 2) (nth d (NullLiteral ∷ BooleanLiteral ∷ RegExpLiteral ∷ ImportMeta ∷ NewTarget ∷ Super ∷ []))
+    (cond (k == 3) (nth d (NumericLiteral ∷ []))
+    (cond (k == 4) (nth d (BigIntLiteral ∷ []))
+    (cond (k == 5) (nth d (StringLiteral ∷ []))
+    (cond (k == 6) (nth d (TemplateLiteral ∷ [])) None)))))
 
 abbrev pub operation_of : ℕ → ℕ → Option Kind
 operation_of k d =
     cond (k == 7) (option_map UnaryExpression (unary_of d))
-    (cond (k == 8) (bare d UpdateExpression)
+    (cond (k == 8) (nth d (UpdateExpression ∷ []))
     (cond (k == 9) (option_map BinaryExpression (binary_of d))
     (cond (k == 10) (option_map LogicalExpression (logical_of d))
     (cond (k == 11) (option_map AssignmentExpression (assignment_of d))
-    (cond (k == 12) (bare d ConditionalExpression)
-    (cond (k == 13) (bare d SequenceExpression)
-    (cond (k == 14) (bare d ParenthesizedExpression)
+    (cond (k == 12) (nth d (ConditionalExpression ∷ []))
+    (cond (k == 13) (nth d (SequenceExpression ∷ []))
+    (cond (k == 14) (nth d (ParenthesizedExpression ∷ []))
     (cond (k == 15) (option_map TypeScriptExpression (wrapper_of d)) None))))))))
 
 abbrev pub compound_of : ℕ → ℕ → Option Kind
 compound_of k d =
-    cond (k == 16) (bare d ArrayExpression)
-    (cond (k == 17) (bare d ObjectExpression)
-    (cond (k == 18) (bare d StaticMemberExpression)
-    (cond (k == 19) (bare d ComputedMemberExpression)
-    (cond (k == 20) (bare d PrivateFieldExpression)
-    (cond (k == 21) (bare d PrivateInExpression)
-    (cond (k == 22) (bare d ChainExpression)
-    (cond (k == 23) (two_of d CallExpression CallLike)
-    (cond (k == 24) (two_of d FunctionExpression ArrowFunctionExpression)
-    (cond (k == 25) (two_of d (ClassExpression false) (ClassExpression true)) None)))))))))
+    cond (k == 16) (nth d (ArrayExpression ∷ []))
+    (cond (k == 17) (nth d (ObjectExpression ∷ []))
+    (cond (k == 18) (nth d (StaticMemberExpression ∷ []))
+    (cond (k == 19) (nth d (ComputedMemberExpression ∷ []))
+    (cond (k == 20) (nth d (PrivateFieldExpression ∷ []))
+    (cond (k == 21) (nth d (PrivateInExpression ∷ []))
+    (cond (k == 22) (nth d (ChainExpression ∷ []))
+    (cond (k == 23) (nth d (CallExpression ∷ CallLike ∷ []))
+    (cond (k == 24) (nth d (FunctionExpression ∷ ArrowFunctionExpression ∷ []))
+    (cond (k == 25) (option_map ClassExpression (flag_of d)) None)))))))))
 
 abbrev pub part_of : ℕ → ℕ → Option Kind
 part_of k d =
-    cond (k == 30) (bare d SpreadElement)
-    (cond (k == 31) (bare d Elision)
+    cond (k == 30) (nth d (SpreadElement ∷ []))
+    (cond (k == 31) (nth d (Elision ∷ []))
     (cond (k == 32) (option_map ObjectProperty (property_of d))
-    (cond (k == 33) (bare d SpreadProperty)
-    (cond (k == 34) (bare d Decorator)
-    (cond (k == 35) (two_of d (MethodDefinition false) (MethodDefinition true))
-    (cond (k == 36) (field_of d)
-    (cond (k == 37) (bare d StaticBlock)
-    (cond (k == 38) (bare d AssignmentTargetPattern)
-    (cond (k == 39) (bare d VariableDeclarator)
-    (cond (k == 40) (two_of d (SwitchCase false) (SwitchCase true))
-    (cond (k == 41) (bare d CatchClause)
-    (cond (k == 42) (bare d BindingIdentifier)
-    (cond (k == 43) (bare d ArrayPattern)
-    (cond (k == 44) (bare d ObjectPattern)
-    (cond (k == 45) (bare d AssignmentPattern)
-    (cond (k == 46) (bare d BindingProperty)
-    (cond (k == 47) (bare d BindingRestElement) None)))))))))))))))))
+    (cond (k == 33) (nth d (SpreadProperty ∷ []))
+    (cond (k == 34) (nth d (Decorator ∷ []))
+    (cond (k == 35) (option_map MethodDefinition (flag_of d))
+    (cond (k == 36) (option_map PropertyDefinition (modifiers_of d))
+    (cond (k == 37) (nth d (StaticBlock ∷ []))
+    (cond (k == 38) (nth d (AssignmentTargetPattern ∷ []))
+    (cond (k == 39) (nth d (VariableDeclarator ∷ []))
+    (cond (k == 40) (option_map SwitchCase (flag_of d))
+    (cond (k == 41) (nth d (CatchClause ∷ []))
+    (cond (k == 42) (nth d (BindingIdentifier ∷ []))
+    (cond (k == 43) (nth d (ArrayPattern ∷ []))
+    (cond (k == 44) (nth d (ObjectPattern ∷ []))
+    (cond (k == 45) (nth d (AssignmentPattern ∷ []))
+    (cond (k == 46) (nth d (BindingProperty ∷ []))
+    (cond (k == 47) (nth d (BindingRestElement ∷ [])) None)))))))))))))))))
 
 abbrev pub statement_of : ℕ → ℕ → Option Kind
 statement_of k d =
-    cond (k == 50) (bare d BlockStatement)
-    (cond (k == 51) (bare d ExpressionStatement)
-    (cond (k == 52) (two_of d WhileStatement DoWhileStatement)
-    (cond (k == 53) (bare d IfStatement)
-    (cond (k == 54) (bare d LabeledStatement)
-    (cond (k == 55) (bare d ReturnStatement)
-    (cond (k == 56) (bare d SwitchStatement)
-    (cond (k == 57) (bare d TryStatement)
-    (cond (k == 58) (bare d EmptyStatement)
-    (cond (k == 59) (bare d ActingStatement)
+    cond (k == 50) (nth d (BlockStatement ∷ []))
+    (cond (k == 51) (nth d (ExpressionStatement ∷ []))
+    (cond (k == 52) (nth d (WhileStatement ∷ DoWhileStatement ∷ []))
+    (cond (k == 53) (nth d (IfStatement ∷ []))
+    (cond (k == 54) (nth d (LabeledStatement ∷ []))
+    (cond (k == 55) (nth d (ReturnStatement ∷ []))
+    (cond (k == 56) (nth d (SwitchStatement ∷ []))
+    (cond (k == 57) (nth d (TryStatement ∷ []))
+    (cond (k == 58) (nth d (EmptyStatement ∷ []))
+    (cond (k == 59) (nth d (ActingStatement ∷ []))
     (cond (k == 60) (option_map VariableDeclaration (declared_of d))
-    (cond (k == 61) (bare d FunctionDeclaration)
-    (cond (k == 62) (two_of d (ClassDeclaration false) (ClassDeclaration true)) None))))))))))))
+    (cond (k == 61) (nth d (FunctionDeclaration ∷ []))
+    (cond (k == 62) (option_map ClassDeclaration (flag_of d)) None))))))))))))
 
 -- the kind of two numbers, if there is one
 abbrev pub kind_of : ℕ → ℕ → Option Kind
 kind_of k d = cond (nat_lt k 7) (primary_of k d) (cond (nat_lt k 16) (operation_of k d) (cond (nat_lt k 26) (compound_of k d) (cond (nat_lt k 50) (part_of k d) (statement_of k d))))
 
-abbrev pub flag : Bool → ℕ
-flag false = 0
-flag true = 1
+-- the kind of two numbers, or the error with them
+abbrev pub Decodes : (ℕ × ℕ) → Result Kind UnknownKind → Type 0
+Decodes numbers r = r ≡ ok_or (kind_of numbers.0 numbers.1) (record { kind = numbers.0; detail = numbers.1 })
 
 -- the number of a kind, and that of its detail
 abbrev pub number_of : Kind → ℕ
@@ -211,7 +195,7 @@ detail_of (ObjectProperty o) = property_number o
 detail_of SpreadProperty = 0
 detail_of Decorator = 0
 detail_of (MethodDefinition b) = flag b
-detail_of (PropertyDefinition m) = m.bits
+detail_of (PropertyDefinition m) = modifiers_number m
 detail_of StaticBlock = 0
 detail_of AssignmentTargetPattern = 0
 detail_of VariableDeclarator = 0

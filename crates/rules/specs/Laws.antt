@@ -6,7 +6,8 @@ use Rattle.drafts.specs.Tree.{Header, Node, Nodes, node, none, ◌▸◌}
 use Rattle.drafts.specs.Trees.{obeys}
 use Rattle.rules.specs.Syntax.{unary, update, binary, assignment, static_member, private_member, call, function, field, target_pattern, rest, acting_statement, variables, function_declaration, delete, instance_of, assign, with_await_using}
 use Rattle.rules.specs.Marks.{one_of}
-use Rattle.rules.specs.Effects.{effects, has_bit}
+use Rattle.rules.specs.Details.{has_bit}
+use Rattle.rules.specs.Effects.{effects}
 
 abbrev pub but_last : Nodes → Nodes
 but_last none = none

@@ -1,10 +1,33 @@
 //! What the detail of a kind says: operators and the like.
 
-ghost use Rattle.std.specs.Prelude.{◌≡◌};
-ghost use Rattle.rules.specs.Details.{unary_of, binary_of, logical_of, assignment_of, wrapper_of, property_of, declared_of};
+ghost use Rattle.std.specs.Prelude.{◌≡◌, List, slice_get};
+ghost use Rattle.rules.specs.Details.{unary_operators, binary_operators, logical_operators, assignment_operators, wrappers, property_kinds, declaration_kinds, flags, modifiers_of};
+
+/// What a detail says: one of a few values.
+pub(crate) trait Detail: Copy + 'static {
+    ghost values: { List Self };
+
+    /// The values in the order of their numbers in the format, from 0 on.
+    fn all() -> &'static [Self]
+        ensures { result.now ≡ values };
+}
+
+/// The value of this number among those listed, from 0 on.
+pub(crate) fn nth<T: Copy>(number: u8, values: &[T]) -> Option<T>
+    ensures { result ≡ slice_get values.now number }
+{
+    values.get(usize::from(number)).copied()
+}
+
+/// The detail of this number.
+pub(crate) fn of_number<T: Detail>(number: u8) -> Option<T>
+    ensures { result ≡ slice_get T.values number }
+{
+    nth(number, T::all())
+}
 
 /// The operator of a unary operation.
-#[derive(Clone, Copy)]
+#[derive(Clone, Copy, PartialEq, Eq, Debug)]
 pub enum UnaryOperator {
     UnaryNegation,
     UnaryPlus,
@@ -15,26 +38,24 @@ pub enum UnaryOperator {
     Delete,
 }
 
-impl UnaryOperator {
-    /// The one of this number in the format.
-    pub(crate) fn of_number(number: u8) -> Option<UnaryOperator>
-        ensures { result ≡ unary_of number }
-    {
-        match number {
-            0 => Some(UnaryOperator::UnaryNegation),
-            1 => Some(UnaryOperator::UnaryPlus),
-            2 => Some(UnaryOperator::LogicalNot),
-            3 => Some(UnaryOperator::BitwiseNot),
-            4 => Some(UnaryOperator::Typeof),
-            5 => Some(UnaryOperator::Void),
-            6 => Some(UnaryOperator::Delete),
-            _ => None,
-        }
+impl Detail for UnaryOperator {
+    ghost values = { unary_operators };
+
+    fn all() -> &'static [Self] {
+        &[
+            UnaryOperator::UnaryNegation,
+            UnaryOperator::UnaryPlus,
+            UnaryOperator::LogicalNot,
+            UnaryOperator::BitwiseNot,
+            UnaryOperator::Typeof,
+            UnaryOperator::Void,
+            UnaryOperator::Delete,
+        ]
     }
 }
 
 /// The operator of a binary operation.
-#[derive(Clone, Copy)]
+#[derive(Clone, Copy, PartialEq, Eq, Debug)]
 pub enum BinaryOperator {
     Equality,
     Inequality,
@@ -60,63 +81,59 @@ pub enum BinaryOperator {
     Instanceof,
 }
 
-impl BinaryOperator {
-    /// The one of this number in the format.
-    pub(crate) fn of_number(number: u8) -> Option<BinaryOperator>
-        ensures { result ≡ binary_of number }
-    {
-        match number {
-            0 => Some(BinaryOperator::Equality),
-            1 => Some(BinaryOperator::Inequality),
-            2 => Some(BinaryOperator::StrictEquality),
-            3 => Some(BinaryOperator::StrictInequality),
-            4 => Some(BinaryOperator::LessThan),
-            5 => Some(BinaryOperator::LessEqualThan),
-            6 => Some(BinaryOperator::GreaterThan),
-            7 => Some(BinaryOperator::GreaterEqualThan),
-            8 => Some(BinaryOperator::Addition),
-            9 => Some(BinaryOperator::Subtraction),
-            10 => Some(BinaryOperator::Multiplication),
-            11 => Some(BinaryOperator::Division),
-            12 => Some(BinaryOperator::Remainder),
-            13 => Some(BinaryOperator::Exponential),
-            14 => Some(BinaryOperator::ShiftLeft),
-            15 => Some(BinaryOperator::ShiftRight),
-            16 => Some(BinaryOperator::ShiftRightZeroFill),
-            17 => Some(BinaryOperator::BitwiseOR),
-            18 => Some(BinaryOperator::BitwiseXOR),
-            19 => Some(BinaryOperator::BitwiseAnd),
-            20 => Some(BinaryOperator::In),
-            21 => Some(BinaryOperator::Instanceof),
-            _ => None,
-        }
+impl Detail for BinaryOperator {
+    ghost values = { binary_operators };
+
+    fn all() -> &'static [Self] {
+        &[
+            BinaryOperator::Equality,
+            BinaryOperator::Inequality,
+            BinaryOperator::StrictEquality,
+            BinaryOperator::StrictInequality,
+            BinaryOperator::LessThan,
+            BinaryOperator::LessEqualThan,
+            BinaryOperator::GreaterThan,
+            BinaryOperator::GreaterEqualThan,
+            BinaryOperator::Addition,
+            BinaryOperator::Subtraction,
+            BinaryOperator::Multiplication,
+            BinaryOperator::Division,
+            BinaryOperator::Remainder,
+            BinaryOperator::Exponential,
+            BinaryOperator::ShiftLeft,
+            BinaryOperator::ShiftRight,
+            BinaryOperator::ShiftRightZeroFill,
+            BinaryOperator::BitwiseOR,
+            BinaryOperator::BitwiseXOR,
+            BinaryOperator::BitwiseAnd,
+            BinaryOperator::In,
+            BinaryOperator::Instanceof,
+        ]
     }
 }
 
 /// The operator of a logical operation.
-#[derive(Clone, Copy)]
+#[derive(Clone, Copy, PartialEq, Eq, Debug)]
 pub enum LogicalOperator {
     And,
     Or,
     Coalesce,
 }
 
-impl LogicalOperator {
-    /// The one of this number in the format.
-    pub(crate) fn of_number(number: u8) -> Option<LogicalOperator>
-        ensures { result ≡ logical_of number }
-    {
-        match number {
-            0 => Some(LogicalOperator::And),
-            1 => Some(LogicalOperator::Or),
-            2 => Some(LogicalOperator::Coalesce),
-            _ => None,
-        }
+impl Detail for LogicalOperator {
+    ghost values = { logical_operators };
+
+    fn all() -> &'static [Self] {
+        &[
+            LogicalOperator::And,
+            LogicalOperator::Or,
+            LogicalOperator::Coalesce,
+        ]
     }
 }
 
 /// The operator of an assignment.
-#[derive(Clone, Copy)]
+#[derive(Clone, Copy, PartialEq, Eq, Debug)]
 pub enum AssignmentOperator {
     Assign,
     Addition,
@@ -136,35 +153,33 @@ pub enum AssignmentOperator {
     LogicalNullish,
 }
 
-impl AssignmentOperator {
-    /// The one of this number in the format.
-    pub(crate) fn of_number(number: u8) -> Option<AssignmentOperator>
-        ensures { result ≡ assignment_of number }
-    {
-        match number {
-            0 => Some(AssignmentOperator::Assign),
-            1 => Some(AssignmentOperator::Addition),
-            2 => Some(AssignmentOperator::Subtraction),
-            3 => Some(AssignmentOperator::Multiplication),
-            4 => Some(AssignmentOperator::Division),
-            5 => Some(AssignmentOperator::Remainder),
-            6 => Some(AssignmentOperator::Exponential),
-            7 => Some(AssignmentOperator::ShiftLeft),
-            8 => Some(AssignmentOperator::ShiftRight),
-            9 => Some(AssignmentOperator::ShiftRightZeroFill),
-            10 => Some(AssignmentOperator::BitwiseOR),
-            11 => Some(AssignmentOperator::BitwiseXOR),
-            12 => Some(AssignmentOperator::BitwiseAnd),
-            13 => Some(AssignmentOperator::LogicalAnd),
-            14 => Some(AssignmentOperator::LogicalOr),
-            15 => Some(AssignmentOperator::LogicalNullish),
-            _ => None,
-        }
+impl Detail for AssignmentOperator {
+    ghost values = { assignment_operators };
+
+    fn all() -> &'static [Self] {
+        &[
+            AssignmentOperator::Assign,
+            AssignmentOperator::Addition,
+            AssignmentOperator::Subtraction,
+            AssignmentOperator::Multiplication,
+            AssignmentOperator::Division,
+            AssignmentOperator::Remainder,
+            AssignmentOperator::Exponential,
+            AssignmentOperator::ShiftLeft,
+            AssignmentOperator::ShiftRight,
+            AssignmentOperator::ShiftRightZeroFill,
+            AssignmentOperator::BitwiseOR,
+            AssignmentOperator::BitwiseXOR,
+            AssignmentOperator::BitwiseAnd,
+            AssignmentOperator::LogicalAnd,
+            AssignmentOperator::LogicalOr,
+            AssignmentOperator::LogicalNullish,
+        ]
     }
 }
 
 /// What TypeScript writes around an expression.
-#[derive(Clone, Copy)]
+#[derive(Clone, Copy, PartialEq, Eq, Debug)]
 pub enum TypeScriptWrapper {
     As,
     Satisfies,
@@ -173,46 +188,38 @@ pub enum TypeScriptWrapper {
     Instantiation,
 }
 
-impl TypeScriptWrapper {
-    /// The one of this number in the format.
-    pub(crate) fn of_number(number: u8) -> Option<TypeScriptWrapper>
-        ensures { result ≡ wrapper_of number }
-    {
-        match number {
-            0 => Some(TypeScriptWrapper::As),
-            1 => Some(TypeScriptWrapper::Satisfies),
-            2 => Some(TypeScriptWrapper::TypeAssertion),
-            3 => Some(TypeScriptWrapper::NonNull),
-            4 => Some(TypeScriptWrapper::Instantiation),
-            _ => None,
-        }
+impl Detail for TypeScriptWrapper {
+    ghost values = { wrappers };
+
+    fn all() -> &'static [Self] {
+        &[
+            TypeScriptWrapper::As,
+            TypeScriptWrapper::Satisfies,
+            TypeScriptWrapper::TypeAssertion,
+            TypeScriptWrapper::NonNull,
+            TypeScriptWrapper::Instantiation,
+        ]
     }
 }
 
 /// What a property of an object literal is.
-#[derive(Clone, Copy)]
+#[derive(Clone, Copy, PartialEq, Eq, Debug)]
 pub enum PropertyKind {
     Init,
     Get,
     Set,
 }
 
-impl PropertyKind {
-    /// The one of this number in the format.
-    pub(crate) fn of_number(number: u8) -> Option<PropertyKind>
-        ensures { result ≡ property_of number }
-    {
-        match number {
-            0 => Some(PropertyKind::Init),
-            1 => Some(PropertyKind::Get),
-            2 => Some(PropertyKind::Set),
-            _ => None,
-        }
+impl Detail for PropertyKind {
+    ghost values = { property_kinds };
+
+    fn all() -> &'static [Self] {
+        &[PropertyKind::Init, PropertyKind::Get, PropertyKind::Set]
     }
 }
 
 /// How variables are declared.
-#[derive(Clone, Copy)]
+#[derive(Clone, Copy, PartialEq, Eq, Debug)]
 pub enum VariableDeclarationKind {
     Var,
     Let,
@@ -221,24 +228,48 @@ pub enum VariableDeclarationKind {
     AwaitUsing,
 }
 
-impl VariableDeclarationKind {
-    /// The one of this number in the format.
-    pub(crate) fn of_number(number: u8) -> Option<VariableDeclarationKind>
-        ensures { result ≡ declared_of number }
-    {
-        match number {
-            0 => Some(VariableDeclarationKind::Var),
-            1 => Some(VariableDeclarationKind::Let),
-            2 => Some(VariableDeclarationKind::Const),
-            3 => Some(VariableDeclarationKind::Using),
-            4 => Some(VariableDeclarationKind::AwaitUsing),
-            _ => None,
-        }
+impl Detail for VariableDeclarationKind {
+    ghost values = { declaration_kinds };
+
+    fn all() -> &'static [Self] {
+        &[
+            VariableDeclarationKind::Var,
+            VariableDeclarationKind::Let,
+            VariableDeclarationKind::Const,
+            VariableDeclarationKind::Using,
+            VariableDeclarationKind::AwaitUsing,
+        ]
     }
 }
 
-/// What a field of a class has: the sum of 1 if it is static, 2 for an accessor, 4 with a key child, 8 with a value child.
-#[derive(Clone, Copy)]
+/// Whether the node has what a node of its kind may lack.
+impl Detail for bool {
+    ghost values = { flags };
+
+    fn all() -> &'static [Self] {
+        &[false, true]
+    }
+}
+
+/// What a field of a class has.
+#[derive(Clone, Copy, PartialEq, Eq, Debug)]
 pub struct Modifiers {
-    pub(crate) bits: u8,
+    pub is_static: bool,
+    pub is_accessor: bool,
+    pub has_key: bool,
+    pub has_value: bool,
+}
+
+impl Modifiers {
+    /// The ones that this number in the format is the sum of: 1 if the field is static, 2 for an accessor, 4 with a key child, 8 with a value child.
+    pub(crate) fn of_number(number: u8) -> Option<Modifiers>
+        ensures { result ≡ modifiers_of number }
+    {
+        (number < 16).then_some(Modifiers {
+            is_static: number & 1 != 0,
+            is_accessor: number & 2 != 0,
+            has_key: number & 4 != 0,
+            has_value: number & 8 != 0,
+        })
+    }
 }

@@ -1,15 +1,15 @@
 //! The kinds of nodes, as a syntax tree has them.
 
 ghost use Rattle.std.specs.Prelude.{◌≡◌};
-ghost use Rattle.rules.specs.Kinds.{bare, leaf_of, two_of, field_of, primary_of, operation_of, compound_of, part_of, statement_of, kind_of};
+ghost use Rattle.rules.specs.Kinds.{primary_of, operation_of, compound_of, part_of, statement_of, Decodes};
 
 use super::detail::{
     AssignmentOperator, BinaryOperator, LogicalOperator, Modifiers, PropertyKind,
-    TypeScriptWrapper, UnaryOperator, VariableDeclarationKind,
+    TypeScriptWrapper, UnaryOperator, VariableDeclarationKind, nth, of_number,
 };
 
 /// What a node is: its kind, and what its detail says.
-#[derive(Clone, Copy)]
+#[derive(Clone, Copy, PartialEq, Eq, Debug)]
 pub enum Kind {
     Identifier,
     NullLiteral,
@@ -87,59 +87,27 @@ pub enum Kind {
 }
 
 impl Kind {
-    /// The kind, if there is no detail.
-    fn bare(detail: u8, kind: Kind) -> Option<Kind>
-        ensures { result ≡ bare detail kind }
-    {
-        if detail == 0 { Some(kind) } else { None }
-    }
-
-    /// The first kind for detail 0, the second for 1.
-    fn either(detail: u8, zero: Kind, one: Kind) -> Option<Kind>
-        ensures { result ≡ two_of detail zero one }
-    {
-        match detail {
-            0 => Some(zero),
-            1 => Some(one),
-            _ => None,
-        }
-    }
-
-    fn leaf(detail: u8) -> Option<Kind>
-        ensures { result ≡ leaf_of detail }
-    {
-        match detail {
-            0 => Some(Kind::NullLiteral),
-            1 => Some(Kind::BooleanLiteral),
-            2 => Some(Kind::RegExpLiteral),
-            3 => Some(Kind::ImportMeta),
-            4 => Some(Kind::NewTarget),
-            5 => Some(Kind::Super),
-            _ => None,
-        }
-    }
-
-    fn field(detail: u8) -> Option<Kind>
-        ensures { result ≡ field_of detail }
-    {
-        if detail < 16 {
-            Some(Kind::PropertyDefinition(Modifiers { bits: detail }))
-        } else {
-            None
-        }
-    }
-
     /// A name or a literal.
     fn primary(kind: u8, detail: u8) -> Option<Kind>
         ensures { result ≡ primary_of kind detail }
     {
         match kind {
-            1 => Kind::bare(detail, Kind::Identifier),
-            2 => Kind::leaf(detail),
-            3 => Kind::bare(detail, Kind::NumericLiteral),
-            4 => Kind::bare(detail, Kind::BigIntLiteral),
-            5 => Kind::bare(detail, Kind::StringLiteral),
-            6 => Kind::bare(detail, Kind::TemplateLiteral),
+            1 => nth(detail, &[Kind::Identifier]),
+            2 => nth(
+                detail,
+                &[
+                    Kind::NullLiteral,
+                    Kind::BooleanLiteral,
+                    Kind::RegExpLiteral,
+                    Kind::ImportMeta,
+                    Kind::NewTarget,
+                    Kind::Super,
+                ],
+            ),
+            3 => nth(detail, &[Kind::NumericLiteral]),
+            4 => nth(detail, &[Kind::BigIntLiteral]),
+            5 => nth(detail, &[Kind::StringLiteral]),
+            6 => nth(detail, &[Kind::TemplateLiteral]),
             _ => None,
         }
     }
@@ -149,15 +117,15 @@ impl Kind {
         ensures { result ≡ operation_of kind detail }
     {
         match kind {
-            7 => Some(Kind::UnaryExpression(UnaryOperator::of_number(detail)?)),
-            8 => Kind::bare(detail, Kind::UpdateExpression),
-            9 => Some(Kind::BinaryExpression(BinaryOperator::of_number(detail)?)),
-            10 => Some(Kind::LogicalExpression(LogicalOperator::of_number(detail)?)),
-            11 => Some(Kind::AssignmentExpression(AssignmentOperator::of_number(detail)?)),
-            12 => Kind::bare(detail, Kind::ConditionalExpression),
-            13 => Kind::bare(detail, Kind::SequenceExpression),
-            14 => Kind::bare(detail, Kind::ParenthesizedExpression),
-            15 => Some(Kind::TypeScriptExpression(TypeScriptWrapper::of_number(detail)?)),
+            7 => of_number(detail).map(Kind::UnaryExpression),
+            8 => nth(detail, &[Kind::UpdateExpression]),
+            9 => of_number(detail).map(Kind::BinaryExpression),
+            10 => of_number(detail).map(Kind::LogicalExpression),
+            11 => of_number(detail).map(Kind::AssignmentExpression),
+            12 => nth(detail, &[Kind::ConditionalExpression]),
+            13 => nth(detail, &[Kind::SequenceExpression]),
+            14 => nth(detail, &[Kind::ParenthesizedExpression]),
+            15 => of_number(detail).map(Kind::TypeScriptExpression),
             _ => None,
         }
     }
@@ -167,24 +135,19 @@ impl Kind {
         ensures { result ≡ compound_of kind detail }
     {
         match kind {
-            16 => Kind::bare(detail, Kind::ArrayExpression),
-            17 => Kind::bare(detail, Kind::ObjectExpression),
-            18 => Kind::bare(detail, Kind::StaticMemberExpression),
-            19 => Kind::bare(detail, Kind::ComputedMemberExpression),
-            20 => Kind::bare(detail, Kind::PrivateFieldExpression),
-            21 => Kind::bare(detail, Kind::PrivateInExpression),
-            22 => Kind::bare(detail, Kind::ChainExpression),
-            23 => Kind::either(detail, Kind::CallExpression, Kind::CallLike),
-            24 => Kind::either(
+            16 => nth(detail, &[Kind::ArrayExpression]),
+            17 => nth(detail, &[Kind::ObjectExpression]),
+            18 => nth(detail, &[Kind::StaticMemberExpression]),
+            19 => nth(detail, &[Kind::ComputedMemberExpression]),
+            20 => nth(detail, &[Kind::PrivateFieldExpression]),
+            21 => nth(detail, &[Kind::PrivateInExpression]),
+            22 => nth(detail, &[Kind::ChainExpression]),
+            23 => nth(detail, &[Kind::CallExpression, Kind::CallLike]),
+            24 => nth(
                 detail,
-                Kind::FunctionExpression,
-                Kind::ArrowFunctionExpression,
+                &[Kind::FunctionExpression, Kind::ArrowFunctionExpression],
             ),
-            25 => Kind::either(
-                detail,
-                Kind::ClassExpression(false),
-                Kind::ClassExpression(true),
-            ),
+            25 => of_number(detail).map(Kind::ClassExpression),
             _ => None,
         }
     }
@@ -194,28 +157,24 @@ impl Kind {
         ensures { result ≡ part_of kind detail }
     {
         match kind {
-            30 => Kind::bare(detail, Kind::SpreadElement),
-            31 => Kind::bare(detail, Kind::Elision),
-            32 => Some(Kind::ObjectProperty(PropertyKind::of_number(detail)?)),
-            33 => Kind::bare(detail, Kind::SpreadProperty),
-            34 => Kind::bare(detail, Kind::Decorator),
-            35 => Kind::either(
-                detail,
-                Kind::MethodDefinition(false),
-                Kind::MethodDefinition(true),
-            ),
-            36 => Kind::field(detail),
-            37 => Kind::bare(detail, Kind::StaticBlock),
-            38 => Kind::bare(detail, Kind::AssignmentTargetPattern),
-            39 => Kind::bare(detail, Kind::VariableDeclarator),
-            40 => Kind::either(detail, Kind::SwitchCase(false), Kind::SwitchCase(true)),
-            41 => Kind::bare(detail, Kind::CatchClause),
-            42 => Kind::bare(detail, Kind::BindingIdentifier),
-            43 => Kind::bare(detail, Kind::ArrayPattern),
-            44 => Kind::bare(detail, Kind::ObjectPattern),
-            45 => Kind::bare(detail, Kind::AssignmentPattern),
-            46 => Kind::bare(detail, Kind::BindingProperty),
-            47 => Kind::bare(detail, Kind::BindingRestElement),
+            30 => nth(detail, &[Kind::SpreadElement]),
+            31 => nth(detail, &[Kind::Elision]),
+            32 => of_number(detail).map(Kind::ObjectProperty),
+            33 => nth(detail, &[Kind::SpreadProperty]),
+            34 => nth(detail, &[Kind::Decorator]),
+            35 => of_number(detail).map(Kind::MethodDefinition),
+            36 => Modifiers::of_number(detail).map(Kind::PropertyDefinition),
+            37 => nth(detail, &[Kind::StaticBlock]),
+            38 => nth(detail, &[Kind::AssignmentTargetPattern]),
+            39 => nth(detail, &[Kind::VariableDeclarator]),
+            40 => of_number(detail).map(Kind::SwitchCase),
+            41 => nth(detail, &[Kind::CatchClause]),
+            42 => nth(detail, &[Kind::BindingIdentifier]),
+            43 => nth(detail, &[Kind::ArrayPattern]),
+            44 => nth(detail, &[Kind::ObjectPattern]),
+            45 => nth(detail, &[Kind::AssignmentPattern]),
+            46 => nth(detail, &[Kind::BindingProperty]),
+            47 => nth(detail, &[Kind::BindingRestElement]),
             _ => None,
         }
     }
@@ -225,41 +184,45 @@ impl Kind {
         ensures { result ≡ statement_of kind detail }
     {
         match kind {
-            50 => Kind::bare(detail, Kind::BlockStatement),
-            51 => Kind::bare(detail, Kind::ExpressionStatement),
-            52 => Kind::either(detail, Kind::WhileStatement, Kind::DoWhileStatement),
-            53 => Kind::bare(detail, Kind::IfStatement),
-            54 => Kind::bare(detail, Kind::LabeledStatement),
-            55 => Kind::bare(detail, Kind::ReturnStatement),
-            56 => Kind::bare(detail, Kind::SwitchStatement),
-            57 => Kind::bare(detail, Kind::TryStatement),
-            58 => Kind::bare(detail, Kind::EmptyStatement),
-            59 => Kind::bare(detail, Kind::ActingStatement),
-            60 => Some(Kind::VariableDeclaration(VariableDeclarationKind::of_number(detail)?)),
-            61 => Kind::bare(detail, Kind::FunctionDeclaration),
-            62 => Kind::either(
-                detail,
-                Kind::ClassDeclaration(false),
-                Kind::ClassDeclaration(true),
-            ),
+            50 => nth(detail, &[Kind::BlockStatement]),
+            51 => nth(detail, &[Kind::ExpressionStatement]),
+            52 => nth(detail, &[Kind::WhileStatement, Kind::DoWhileStatement]),
+            53 => nth(detail, &[Kind::IfStatement]),
+            54 => nth(detail, &[Kind::LabeledStatement]),
+            55 => nth(detail, &[Kind::ReturnStatement]),
+            56 => nth(detail, &[Kind::SwitchStatement]),
+            57 => nth(detail, &[Kind::TryStatement]),
+            58 => nth(detail, &[Kind::EmptyStatement]),
+            59 => nth(detail, &[Kind::ActingStatement]),
+            60 => of_number(detail).map(Kind::VariableDeclaration),
+            61 => nth(detail, &[Kind::FunctionDeclaration]),
+            62 => of_number(detail).map(Kind::ClassDeclaration),
             _ => None,
         }
     }
+}
 
-    /// The kind of these two bytes in the format, if there is one.
-    pub(crate) fn of_numbers(kind: u8, detail: u8) -> Option<Kind>
-        ensures { result ≡ kind_of kind detail }
-    {
-        if kind < 7 {
-            Kind::primary(kind, detail)
-        } else if kind < 16 {
-            Kind::operation(kind, detail)
-        } else if kind < 26 {
-            Kind::compound(kind, detail)
-        } else if kind < 50 {
-            Kind::part(kind, detail)
-        } else {
-            Kind::statement(kind, detail)
-        }
+/// Two numbers that no kind has.
+#[derive(Clone, Copy, PartialEq, Eq, Debug)]
+pub struct UnknownKind {
+    pub kind: u8,
+    pub detail: u8,
+}
+
+/// The kind of these two bytes in the format: that of the kind, and that of its detail.
+impl TryFrom<(u8, u8)> for Kind {
+    type Error = UnknownKind;
+
+    ghost try_from_gives = { Decodes };
+
+    fn try_from((kind, detail): (u8, u8)) -> Result<Kind, UnknownKind> {
+        let found = match kind {
+            ..=6 => Kind::primary(kind, detail),
+            ..=15 => Kind::operation(kind, detail),
+            ..=25 => Kind::compound(kind, detail),
+            ..=49 => Kind::part(kind, detail),
+            _ => Kind::statement(kind, detail),
+        };
+        found.ok_or(UnknownKind { kind, detail })
     }
 }

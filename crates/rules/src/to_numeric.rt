@@ -6,7 +6,7 @@ ghost use Rattle.rules.specs.Primitives.{numeric_class};
 use super::to_primitive::ToPrimitiveResult;
 
 /// What ToNumeric of a value gives, as far as it is known.
-#[derive(Clone, Copy)]
+#[derive(Clone, Copy, PartialEq, Eq, Debug)]
 pub enum ToNumericResult {
     Number,
     BigInt,
