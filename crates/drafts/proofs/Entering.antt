@@ -1,58 +1,67 @@
 -- A field that is accepted, and the record that it makes.
-use Rattle.std.proofs.Common.{◌≡◌, ℕ, zero, suc, ◌+◌, ◌-◌, ◌<◌, ◌≤◌, Bool, true, false, cond, not, eqb, ltb, List, length, get_or, Some, None, Ok, Err, Result, sym, refl, ap, ◌∙◌, subst, arith, ltb-true, lt-ltb, ne_eqb, le-leb}
+use Rattle.std.proofs.Common.{◌≡◌, ℕ, suc, ◌+◌, ◌-◌, ◌<◌, ◌≤◌, Bool, true, false, cond, not, ◌&&◌, eqb, ltb, leb, List, length, get_or, Some, None, Option, Ok, Err, Result, sym, refl, ap, ◌∙◌, subst, arith, ltb-true, lt-ltb, le-ltb, ne_eqb, le-leb}
 use borrow.Author.Tests.{lt-leb}
 use Rattle.packed.specs.declared.refusal.Refusal.{Refusal}
+use Rattle.packed.specs.declared.refusal.Reason.TheVariants.{BadText, BadChildren, Full}
 use Rattle.packed.specs.Fields.{Told, node, payload_at, next_at, word_at}
-use Rattle.packed.specs.Reading.{and_then, node_at}
+use Rattle.packed.specs.Reading.{refused, and_then, node_at}
 use Rattle.packed.proofs.Steps.{no_err, ok_same, pass}
 use Rattle.packed.proofs.NodesRead.{node_there}
 use Rattle.drafts.specs.declared.record.Record.{Record}
-use Rattle.drafts.specs.declared.row.Children.{Children}
-use Rattle.drafts.specs.declared.row.Children.TheVariants.{Leaf}
-use Rattle.drafts.specs.declared.row.Item.{Item}
-use Rattle.drafts.specs.Tree.{Nodes, none, ◌▸◌, many, sizes, last_of, waiting, text_at}
+use Rattle.drafts.specs.Tree.{Nodes, many, sizes, last_of, waiting, text_at}
 use Rattle.drafts.specs.Grammar.{fits}
-use Rattle.drafts.specs.Table.{row_of, text_of, children_of, items_of, fewest_of}
+use Rattle.drafts.specs.Table.{Shape, row_of, text_of}
 use Rattle.drafts.specs.TextRules.{text_fits}
 use Rattle.drafts.specs.Added.{known, allowed, children_fit, entered, accepted}
 use Rattle.drafts.proofs.Places.{sizes_split, all_wait}
-use Rattle.drafts.proofs.Walks.{many_last}
-
-module _ (children : Children) (ws : Nodes) (kind detail count fewest : ℕ) (enough : count ≤ many ws)
-    (e : children ≡ children_of (row_of kind)) (f : fewest ≡ fewest_of children) where
-  pub allows_from : (items : List Item) (b : Bool) → items ≡ items_of children → fewest ≤ count → b ≡ fits items detail 3 (last_of count ws) →
-      b ≡ allowed kind detail (last_of count ws)
-  unfolding allowed
-  allows_from items b i l h =
-      let m = many_last count ws enough in
-      rw (sym e, sym f, m, sym i, le-leb fewest count l) h
-
-  pub allows_not : count < fewest → false ≡ allowed kind detail (last_of count ws)
-  unfolding allowed
-  allows_not l = let m = many_last count ws enough in rw (sym e, sym f, m, lt-leb fewest count l)
-
--- the items of a row without children allow exactly no nodes
-pub leaf_fits : (k detail : ℕ) (ws : Nodes) → k ≤ many ws → eqb k 0 ≡ fits (items_of Leaf) detail 3 (last_of k ws)
-leaf_fits zero detail ws h = refl
-leaf_fits (suc k) detail none h = absurd (omega arith)
-leaf_fits (suc k) detail (ws ▸ n) h = ne_eqb (suc k) 0 (omega arith)
-
-some_cond : (b : Bool) (x y : ℕ) → Some x ≡ cond b (Some y) None → (b ≡ true) × (x ≡ y)
-some_cond true x y e = (refl, cc)
-some_cond false x y e = absurd (let z : ◌≡◌ {A = ℕ} 0 1 = cc in omega arith)
 
 last_fits : (file : List ℕ) (rs : List Record) (n c : ℕ) → sizes (last_of c (waiting file rs n)) ≤ n
 last_fits file rs n c = omega (arith, sizes_split c (waiting file rs n), all_wait file rs n)
 
-module _ (file : List ℕ) (rs : List Record) (n p kind detail count reference : ℕ) (text : List ℕ) (next start : ℕ) where
-  pub entered_ok : known kind detail reference ≡ true → (kind ≡ 70 → ⊥) → text_fits (text_of (row_of kind)) detail count text ≡ true →
-      Some start ≡ cond (children_fit (waiting file rs n) kind detail count) (Some (n - sizes (last_of count (waiting file rs n)))) None → n < 65535 →
-      Ok (record { place = p; kind = kind; detail = detail; count = count; reference = reference; span = n + 1 - start }, next) ≡
-      entered (waiting file rs n) n p (node kind detail count reference text) next
-  entered_ok k s t c l =
-      let fit = some_cond (children_fit (waiting file rs n) kind detail count) _ _ c in
-      let span : n + 1 - start ≡ suc (sizes (last_of count (waiting file rs n))) = omega (arith, fit.1, last_fits file rs n count) in
-      rw (k, ne_eqb kind 70 s, t, fit.0, lt-ltb n 65535 l, span)
+known_shape : (b : Bool) (o : Option Shape) (s : Shape) → Some s ≡ cond b o None → (b ≡ true) × (o ≡ Some s)
+known_shape true o s e = (refl, sym e)
+known_shape false o s e = absurd (let z : ◌≡◌ {A = ℕ} 0 1 = cc in omega arith)
+
+-- a node of a known kind and detail, where the nodes of n records wait
+module _ (file : List ℕ) (rs : List Record) (n p next kind detail count reference : ℕ) (text : List ℕ) (s : Shape)
+    (read : Ok (node kind detail count reference text, next) ≡ node_at file p) (k : Some s ≡ cond (known kind detail reference) (row_of kind) None) (spares : kind ≡ 70 → ⊥) where
+  abbrev pub children : Bool
+  children = leb s.fewest (many (last_of count (waiting file rs n))) && fits s.items detail (last_of count (waiting file rs n))
+
+  abbrev pub rest : Result (Record × ℕ) Refusal
+  rest =
+      cond (text_fits s.text detail count text)
+      (cond (leb count (many (waiting file rs n)) && children)
+      (cond (ltb n 65535)
+      (Ok (record { place = p; kind = kind; detail = detail; count = count; reference = reference; span = suc (sizes (last_of count (waiting file rs n))) }, next))
+      (refused Full p)) (refused BadChildren p)) (refused BadText p)
+
+  -- what is left to test
+  accepted_rest : accepted file rs n p ≡ rest
+  unfolding allowed
+  accepted_rest =
+      let both = known_shape (known kind detail reference) (row_of kind) s k in
+      ap (λ x. and_then x (λ a. entered (waiting file rs n) n p a.0 a.1)) (sym read) ∙ rw (both.0, ne_eqb kind 70 spares, both.1) refl
+
+  pub refuses_text : false ≡ text_fits s.text detail count text → refused BadText p ≡ accepted file rs n p
+  refuses_text h = sym (accepted_rest ∙ rw (← h) refl)
+
+  pub refuses_few : true ≡ text_fits s.text detail count text → many (waiting file rs n) < count → refused BadChildren p ≡ accepted file rs n p
+  refuses_few h l = sym (accepted_rest ∙ rw (← h, lt-leb count (many (waiting file rs n)) l) refl)
+
+  module _ (reads : true ≡ text_fits s.text detail count text) (enough : count ≤ many (waiting file rs n)) where
+    pub refuses_children : false ≡ children → refused BadChildren p ≡ accepted file rs n p
+    refuses_children h = sym (accepted_rest ∙ rw (← reads, le-leb count (many (waiting file rs n)) enough, ← h) refl)
+
+    module _ (fit : true ≡ children) where
+      pub refuses_full : 65535 ≤ n → refused Full p ≡ accepted file rs n p
+      refuses_full l = sym (accepted_rest ∙ rw (← reads, le-leb count (many (waiting file rs n)) enough, ← fit, le-ltb n 65535 l) refl)
+
+      pub accepts : (start : ℕ) → n < 65535 → start + sizes (last_of count (waiting file rs n)) ≡ n →
+          Ok (record { place = p; kind = kind; detail = detail; count = count; reference = reference; span = n + 1 - start }, next) ≡ accepted file rs n p
+      accepts start l e =
+          let span : n + 1 - start ≡ suc (sizes (last_of count (waiting file rs n))) = omega (arith, last_fits file rs n count) in
+          sym (accepted_rest ∙ rw (← reads, le-leb count (many (waiting file rs n)) enough, ← fit, lt-ltb n 65535 l, span) refl)
 
 -- what an accepted record, of node n with its field at p, says of itself; q is the next field's place
 pub record Taken (file : List ℕ) (ws : Nodes) (n p : ℕ) (r : Record) (q : ℕ) : Type 0 where

@@ -1,9 +1,11 @@
 pub mod Places
+pub mod Back
+pub mod Fitting
 pub mod Walks
 pub mod Entering
 pub mod Standing
 pub mod Leaving
-pub mod Bulks
-pub mod Growing
 pub mod Plainly
 pub mod RowsSay
+pub mod Growing
+pub mod Bulks

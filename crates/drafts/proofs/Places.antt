@@ -4,7 +4,7 @@ use native.Mathlib.Nat.{sub-zero}
 use Rattle.drafts.specs.declared.record.Record.{Record}
 use Rattle.drafts.specs.Tree.{Node, Nodes, none, ◌▸◌, sizes, many, last_of, before_of, at, waiting, tree, Spanned}
 
-before_before : (c k : ℕ) (ns : Nodes) → before_of k (before_of c ns) ≡ before_of (c + k) ns
+pub before_before : (c k : ℕ) (ns : Nodes) → before_of k (before_of c ns) ≡ before_of (c + k) ns
 before_before zero k ns = rw zero-add
 before_before (suc c) zero none = rw suc-add
 before_before (suc c) (suc k) none = rw suc-add

@@ -1,13 +1,12 @@
 -- The grammar, in plain words.
-use Rattle.std.proofs.Common.{◌≡◌, ℕ, zero, suc, ◌-◌, ◌<◌, ◌≤◌, Bool, true, false, ◌&&◌, ◌||◌, eqb, ltb, ◌⊎◌, List, get_or, sym, refl, ap, inl, inr, ⊎_elim, arith, ltb-true, lt-ltb, eqb-true}
+use Rattle.std.proofs.Common.{◌≡◌, ℕ, ◌-◌, ◌<◌, ◌≤◌, Bool, true, false, ◌&&◌, ◌||◌, eqb, ltb, ◌⊎◌, List, [], ◌∷◌, sym, refl, ap, ◌∙◌, inl, inr, ⊎_elim, arith, ltb-true, lt-ltb, eqb-true}
 use Rattle.drafts.specs.declared.row.Set.{Set}
 use Rattle.drafts.specs.declared.row.Item.{Item}
-use Rattle.drafts.specs.declared.row.Item.TheVariants.{Nothing}
 use Rattle.drafts.specs.Tree.{Nodes, none, ◌▸◌, many}
-use Rattle.drafts.specs.Grammar.{has, ends_in, fits, set_of, least_of, most_of}
+use Rattle.drafts.specs.Grammar.{has, ends_in, empty, fits_behind, fits, set_of, least_of, most_of}
 use Rattle.drafts.specs.Plain.{◌⧺◌, all_in, Parts, FallsIntoParts}
 use Rattle.drafts.proofs.Standing.{and_left, and_right}
-use Rattle.drafts.proofs.Walks.{ends_here}
+use Rattle.drafts.proofs.Fitting.{ends_here}
 
 or_cases : (a b : Bool) → (a || b) ≡ true → (a ≡ true) ⊎ (b ≡ true)
 or_cases true b h = inl refl
@@ -70,22 +69,48 @@ module _ (s : Set) (d : ℕ) (rest : Nodes → Bool) where
       or_right (eqb least 0 && rest ((front ⧺ part) ▸ n)) _
       (rw (lt-ltb 0 most (omega arith), and_right (all_in s d part) (has s d n) e) more)
 
-pub falls : (items : List Item) (d p : ℕ) (ns : Nodes) → fits items d p ns ≡ true → Parts items d p ns
-falls items d zero none h = refl
-falls items d zero (ns ▸ n) h = absurd (let z : ◌≡◌ {A = ℕ} 0 1 = cc in omega arith)
-falls items d (suc p) ns h =
-    let item : Item = get_or items p Nothing in
-    let r = split_off (set_of item) d (fits items d p) (least_of item d) (most_of item d) ns h in
-    (r.front, (r.part, (r.cut, (record { each = r.each; at_least = r.at_least; at_most = r.at_most }, falls items d p r.front r.ahead))))
+-- the nodes of the items before, and those of this item
 
-joined : (items : List Item) (d p : ℕ) (ns : Nodes) → Parts items d p ns → fits items d p ns ≡ true
-joined items d zero ns h = rw h
-joined items d (suc p) ns h =
-    let item : Item = get_or items p Nothing in
-    let part = h.1.1.1.0 in
-    rw h.1.1.0
-    (join_on (set_of item) d (fits items d p) (least_of item d) (most_of item d) h.0 h.1.0 part.each part.at_least part.at_most
-    (joined items d p h.0 h.1.1.1.1))
+abbrev pub Front : (Nodes → Bool) → List Item → ℕ → Nodes → Type 0
+Front front items d ns = (ahead : Nodes) × ((rest : Nodes) × ((ns ≡ ahead ⧺ rest) × ((front ahead ≡ true) × Parts items d rest)))
+
+append_assoc : (a b c : Nodes) → a ⧺ (b ⧺ c) ≡ a ⧺ b ⧺ c
+append_assoc a b none = refl
+append_assoc a b (c ▸ n) = ap (λ (ns : Nodes). ns ▸ n) (append_assoc a b c)
+
+none_before : (a : Nodes) → none ⧺ a ≡ a
+none_before none = refl
+none_before (a ▸ n) = ap (λ (ns : Nodes). ns ▸ n) (none_before a)
+
+falls_behind : (front : Nodes → Bool) (items : List Item) (d : ℕ) (ns : Nodes) → fits_behind front items d ns ≡ true → Front front items d ns
+falls_behind front [] d ns h = (ns, (none, (refl, (h, refl))))
+falls_behind front (item ∷ items) d ns h =
+    let r = falls_behind (ends_in (set_of item) d front (least_of item d) (most_of item d)) items d ns h in
+    let s = split_off (set_of item) d front (least_of item d) (most_of item d) r.0 r.1.1.1.0 in
+    let cut = r.1.1.0 ∙ ap (λ (x : Nodes). x ⧺ r.1.0) s.cut ∙ sym (append_assoc s.front s.part r.1.0) in
+    (s.front, (s.part ⧺ r.1.0, (cut, (s.ahead, (s.part, (r.1.0, (refl, (record { each = s.each; at_least = s.at_least; at_most = s.at_most }, r.1.1.1.1))))))))
+
+joins_behind : (front : Nodes → Bool) (items : List Item) (d : ℕ) (ahead rest : Nodes) → front ahead ≡ true → Parts items d rest →
+    fits_behind front items d (ahead ⧺ rest) ≡ true
+joins_behind front [] d ahead rest h p = rw p h
+joins_behind front (item ∷ items) d ahead rest h p =
+    let part = p.1.1.1.0 in
+    let here = join_on (set_of item) d front (least_of item d) (most_of item d) ahead p.0 part.each part.at_least part.at_most h in
+    rw (p.1.1.0, append_assoc ahead p.0 p.1.0)
+    (joins_behind (ends_in (set_of item) d front (least_of item d) (most_of item d)) items d (ahead ⧺ p.0) p.1.0 here p.1.1.1.1)
+
+empty_none : (ns : Nodes) → empty ns ≡ true → ns ≡ none
+empty_none none h = refl
+empty_none (ns ▸ n) h = absurd (let z : ◌≡◌ {A = ℕ} 0 1 = cc in omega arith)
+
+pub falls : (items : List Item) (d : ℕ) (ns : Nodes) → fits items d ns ≡ true → Parts items d ns
+falls items d ns h =
+    let r = falls_behind empty items d ns h in
+    let all : ns ≡ r.1.0 = r.1.1.0 ∙ ap (λ (x : Nodes). x ⧺ r.1.0) (empty_none r.0 r.1.1.1.0) ∙ none_before r.1.0 in
+    rw all r.1.1.1.1
+
+joined : (items : List Item) (d : ℕ) (ns : Nodes) → Parts items d ns → fits items d ns ≡ true
+joined items d ns h = rw (← none_before ns) (joins_behind empty items d none ns refl h)
 
 pub falls_into_parts : FallsIntoParts
 falls_into_parts = record { splits = falls; joins = joined }

@@ -7,7 +7,7 @@ use Rattle.packed.specs.Reading.{refused, and_then, node_at}
 use Rattle.drafts.specs.declared.record.Record.{Record}
 use Rattle.drafts.specs.Tree.{Nodes, many, sizes, last_of, waiting, at}
 use Rattle.drafts.specs.Grammar.{fits}
-use Rattle.drafts.specs.Table.{row_of, details_of, text_of, children_of, items_of, fewest_of}
+use Rattle.drafts.specs.Table.{row_of, details_of, text_of, items_of, fewest_of}
 use Rattle.drafts.specs.TextRules.{text_fits}
 
 -- a known kind and detail; a reference is for an identifier alone
@@ -17,7 +17,7 @@ known kind detail reference = nat_lt detail (details_of (row_of kind)) && (refer
 -- the children of a node of this kind and detail are what its row allows
 unfoldable pub allowed : ℕ → ℕ → Nodes → Bool
 allowed kind detail below =
-    nat_le (fewest_of (children_of (row_of kind))) (many below) && fits (items_of (children_of (row_of kind))) detail 3 below
+    nat_le (fewest_of (row_of kind)) (many below) && fits (items_of (row_of kind)) detail below
 
 -- so many nodes wait, and the last of them are allowed as children
 abbrev pub children_fit : Nodes → ℕ → ℕ → ℕ → Bool

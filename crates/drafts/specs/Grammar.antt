@@ -1,9 +1,10 @@
 -- What children a row allows.
-use Rattle.std.specs.Prelude.{ℕ, zero, suc, ◌-◌, Bool, true, false, cond, ◌&&◌, ◌||◌, List, ◌==◌, bit_and, nat_le, nat_lt, slice_index_or}
+use Rattle.std.specs.Prelude.{ℕ, ◌-◌, Bool, true, false, cond, ◌&&◌, ◌||◌, List, [], ◌∷◌, ◌==◌, bit_and, nat_le, nat_lt}
 use Rattle.drafts.specs.declared.row.Set.{Set}
-use Rattle.drafts.specs.declared.row.Set.TheVariants.{Any, Kind, Kinds, Expression, Pattern, Statement, Target, Assigned, Element, PatternOrHole, Link, Declarator}
+use Rattle.drafts.specs.declared.row.Set.TheVariants.{Any, Only, Expression, Pattern, Statement, Target, Assigned, Element, PatternOrHole, Property, ClassElement, Link, Declarator}
 use Rattle.drafts.specs.declared.row.Item.{Item}
-use Rattle.drafts.specs.declared.row.Item.TheVariants.{Nothing, One, Maybe, Many, AtLeastOne, If}
+use Rattle.drafts.specs.declared.row.Item.TheVariants.{One, Maybe, Many, AtLeastOne, If}
+use Rattle.drafts.specs.Kinds.{number_of}
 use Rattle.drafts.specs.Tree.{Node, Nodes, node, none, ◌▸◌}
 
 abbrev pub within : ℕ → ℕ → ℕ → Bool
@@ -26,8 +27,7 @@ link k e = within 18 20 k || ((k == 23 && e == 0) || (k == 15 && e == 3))
 -- whether a node belongs to the set, as a child of a node of detail d
 abbrev pub has : Set → ℕ → Node → Bool
 has Any d (node h below) = true
-has (Kind k) d (node h below) = h.kind == k
-has (Kinds low high) d (node h below) = within low high h.kind
+has (Only kind) d (node h below) = h.kind == number_of kind
 has Expression d (node h below) = within 1 25 h.kind
 has Pattern d (node h below) = within 42 45 h.kind
 has Statement d (node h below) = within 50 62 h.kind
@@ -35,13 +35,14 @@ has Target d (node h below) = target h.kind h.detail
 has Assigned d (node h below) = target h.kind h.detail || h.kind == 38
 has Element d (node h below) = within 1 25 h.kind || within 30 31 h.kind
 has PatternOrHole d (node h below) = within 42 45 h.kind || h.kind == 31
+has Property d (node h below) = within 32 33 h.kind
+has ClassElement d (node h below) = within 34 37 h.kind
 has Link d (node h below) = link h.kind h.detail
 has Declarator d (node h below) = h.kind == 39 && (nat_lt d 3 || first_is 42 below)
 
 -- the set of an item, and how many nodes of it there are, at least and at most, under a node of detail d;
 -- a node has at most 65,535 children, so that bounds nothing
 abbrev pub set_of : Item → Set
-set_of Nothing = Any
 set_of (One s) = s
 set_of (Maybe s) = s
 set_of (Many s) = s
@@ -49,7 +50,6 @@ set_of (AtLeastOne s) = s
 set_of (If bit s) = s
 
 abbrev pub least_of : Item → ℕ → ℕ
-least_of Nothing d = 0
 least_of (One s) d = 1
 least_of (Maybe s) d = 0
 least_of (Many s) d = 0
@@ -57,7 +57,6 @@ least_of (AtLeastOne s) d = 1
 least_of (If bit s) d = cond (bit_and d bit == 0) 0 1
 
 abbrev pub most_of : Item → ℕ → ℕ
-most_of Nothing d = 0
 most_of (One s) d = 1
 most_of (Maybe s) d = 1
 most_of (Many s) d = 65535
@@ -70,8 +69,15 @@ ends_in s d rest least most none = least == 0 && rest none
 ends_in s d rest least most (ns ▸ n) =
     (least == 0 && rest (ns ▸ n)) || (nat_lt 0 most && (has s d n && ends_in s d rest (least - 1) (most - 1) ns))
 
--- whether the nodes are what the first p items allow
-abbrev pub fits : List Item → ℕ → ℕ → Nodes → Bool
-fits items d zero none = true
-fits items d zero (ns ▸ n) = false
-fits items d (suc p) ns = ends_in (set_of (slice_index_or items p Nothing)) d (fits items d p) (least_of (slice_index_or items p Nothing) d) (most_of (slice_index_or items p Nothing) d) ns
+abbrev pub empty : Nodes → Bool
+empty none = true
+empty (ns ▸ n) = false
+
+-- whether the nodes are some for each item, in order, behind nodes as `front` says
+abbrev pub fits_behind : (Nodes → Bool) → List Item → ℕ → Nodes → Bool
+fits_behind front [] d = front
+fits_behind front (item ∷ items) d = fits_behind (ends_in (set_of item) d front (least_of item d) (most_of item d)) items d
+
+-- whether the nodes are what the items allow
+abbrev pub fits : List Item → ℕ → Nodes → Bool
+fits items d = fits_behind empty items d

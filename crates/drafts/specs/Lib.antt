@@ -1,4 +1,5 @@
 pub mod Tree
+pub mod Kinds
 pub mod Grammar
 pub mod Table
 pub mod TextRules
@@ -7,3 +8,4 @@ pub mod Left
 pub mod Bulk
 pub mod Trees
 pub mod Plain
+pub mod Walk

@@ -1,8 +1,7 @@
 -- What the grammar says, in plain words.
-use Rattle.std.specs.Prelude.{◌≡◌, ℕ, zero, suc, ◌≤◌, Bool, true, ◌&&◌, List, ◌==◌, slice_index_or}
+use Rattle.std.specs.Prelude.{◌≡◌, ℕ, ◌≤◌, Bool, true, ◌&&◌, List, [], ◌∷◌, ◌==◌}
 use Rattle.drafts.specs.declared.row.Set.{Set}
 use Rattle.drafts.specs.declared.row.Item.{Item}
-use Rattle.drafts.specs.declared.row.Item.TheVariants.{Nothing}
 use Rattle.drafts.specs.Tree.{Nodes, node, none, ◌▸◌, many}
 use Rattle.drafts.specs.Grammar.{has, first_is, set_of, least_of, most_of, fits}
 use Rattle.drafts.specs.Added.{allowed}
@@ -23,16 +22,16 @@ pub record Part (item : Item) (d : ℕ) (part : Nodes) : Type 0 where
   pub at_least : least_of item d ≤ many part
   pub at_most : many part ≤ most_of item d
 
--- the nodes are parts in a row, one for each of the first p items
-abbrev pub Parts : List Item → ℕ → ℕ → Nodes → Type 0
-Parts items d zero ns = ns ≡ none
-Parts items d (suc p) ns =
-    (front : Nodes) × ((part : Nodes) × ((ns ≡ front ⧺ part) × (Part (slice_index_or items p Nothing) d part × Parts items d p front)))
+-- the nodes are parts in a row, one for each item
+abbrev pub Parts : List Item → ℕ → Nodes → Type 0
+Parts [] d ns = ns ≡ none
+Parts (item ∷ items) d ns =
+    (part : Nodes) × ((rest : Nodes) × ((ns ≡ part ⧺ rest) × (Part item d part × Parts items d rest)))
 
 -- items allow exactly the nodes that fall into such parts
 pub record FallsIntoParts : Type 0 where
-  pub splits : (items : List Item) (d p : ℕ) (ns : Nodes) → fits items d p ns ≡ true → Parts items d p ns
-  pub joins : (items : List Item) (d p : ℕ) (ns : Nodes) → Parts items d p ns → fits items d p ns ≡ true
+  pub splits : (items : List Item) (d : ℕ) (ns : Nodes) → fits items d ns ≡ true → Parts items d ns
+  pub joins : (items : List Item) (d : ℕ) (ns : Nodes) → Parts items d ns → fits items d ns ≡ true
 
 -- each of the nodes is a declarator (39) of a binding identifier (42)
 abbrev pub names_only : Nodes → Bool

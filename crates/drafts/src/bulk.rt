@@ -14,49 +14,44 @@ pub struct Opened {
     pub draft: Draft,
     /// The file's end, or where the field begins that was refused.
     pub place: usize,
-    /// The refusal that stopped it.
-    pub refusal: Option<Refusal>,
+    /// Whether all were accepted, or the refusal that stopped it.
+    pub outcome: Result<(), Refusal>,
 }
 
-/// `open_all`, without the law.
-fn open_fields(file: &[u8], table: &mut [Record], place: usize) -> Opened
-    ensures { AddsAll file.now 0 table.old place result.draft.nodes table.new result.place result.refusal }
+/// Adds the fields from `place` on to a draft just opened, and moves `place` behind each.
+fn add_all(
+    file: &[u8],
+    draft: &mut Draft,
+    table: &mut [Record],
+    place: &mut usize,
+) -> Result<(), Refusal>
+    requires { draft.old.nodes ≡ 0 }
+    ensures { AddsAll file.now 0 table.old place.old draft.new.nodes table.new place.new result }
 {
-    let mut draft = open();
     if file.len() > MAX_FILE {
-        return Opened {
-            draft,
-            place,
-            refusal: Some(Refusal {
-                reason: Reason::Full,
-                place: MAX_FILE,
-            }),
-        };
+        return Err(Refusal {
+            reason: Reason::Full,
+            place: MAX_FILE,
+        });
     }
-    let mut at = place;
-    while at != file.len() {
-        match enter(file, &mut draft, table, at) {
-            Ok(next) => at = next,
-            Err(refusal) => {
-                return Opened {
-                    draft,
-                    place: at,
-                    refusal: Some(refusal),
-                };
-            }
-        }
+    while *place != file.len() {
+        *place = enter(file, draft, table, *place)?;
     }
-    Opened {
-        draft,
-        place: at,
-        refusal: None,
-    }
+    Ok(())
 }
 
 /// Opens a draft and adds the fields from `place` on, one after the other, up to the file's end or the first refusal.
+#[tactic(auto, using(crate::proofs::Bulks::ends_once))]
 pub fn open_all(file: &[u8], table: &mut [Record], place: usize) -> Opened
-    ensures run { AddsAll file.now 0 table.old place result.draft.nodes table.new result.place result.refusal }
+    ensures run { AddsAll file.now 0 table.old place result.draft.nodes table.new result.place result.outcome }
     ensures once { EndsOnce file.now }
 {
-    open_fields(file, table, place)
+    let mut draft = open();
+    let mut place = place;
+    let outcome = add_all(file, &mut draft, table, &mut place);
+    Opened {
+        draft,
+        place,
+        outcome,
+    }
 }

@@ -1,18 +1,31 @@
 //! Whether the children of a node are what its row allows.
 
-ghost use Rattle.std.specs.Prelude.{◌≡◌, ◌+◌, ◌-◌, ◌<◌, ◌≤◌, length, MatchOption};
-ghost use Rattle.drafts.specs.Tree.{waits, tree_in, children_in, SpannedIn, many, sizes, last_of, ◌▸◌};
-ghost use Rattle.drafts.specs.Grammar.{set_of, least_of, most_of, first_is, has as belongs, within as between, target, link, fits as allowed};
+ghost use Rattle.std.specs.Prelude.{◌≡◌, ◌==◌};
+ghost use Rattle.drafts.specs.Kinds.{number_of};
+ghost use Rattle.drafts.specs.Grammar.{set_of, least_of, most_of, first_is, has as belongs, within, target, link, fits as allowed};
 
-use super::record::Source;
-use super::row::{Item, Set};
+use super::kind::Kind;
+use super::record::Record;
+use super::row::{Children, Item, Set};
+use super::waiting::{Last, Subtree};
+
+/// The detail of a TypeScript expression that is a non-null assertion.
+const NON_NULL: u8 = 3;
+
+/// The detail of a TypeScript expression that is an instantiation; those before it stand around what can be written.
+const INSTANTIATION: u8 = 4;
+
+/// The detail of a call that is no other act.
+const CALL: u8 = 0;
+
+/// The first detail of a variable declaration that is a `using` one.
+const USING: u8 = 3;
 
 impl Item {
     fn set(self) -> Set
         ensures { result ≡ set_of self }
     {
         match self {
-            Item::Nothing => Set::Any,
             Item::One(set)
             | Item::Maybe(set)
             | Item::Many(set)
@@ -25,7 +38,7 @@ impl Item {
         ensures { result ≡ least_of self detail }
     {
         match self {
-            Item::Nothing | Item::Maybe(_) | Item::Many(_) => 0,
+            Item::Maybe(_) | Item::Many(_) => 0,
             Item::One(_) | Item::AtLeastOne(_) => 1,
             Item::If(bit, _) => { if detail & bit == 0 { 0 } else { 1 } }
         }
@@ -35,7 +48,6 @@ impl Item {
         ensures { result ≡ most_of self detail }
     {
         match self {
-            Item::Nothing => 0,
             Item::One(_) | Item::Maybe(_) => 1,
             Item::Many(_) | Item::AtLeastOne(_) => u16::MAX,
             Item::If(bit, _) => { if detail & bit == 0 { 0 } else { 1 } }
@@ -43,126 +55,132 @@ impl Item {
     }
 }
 
-fn within(low: u8, high: u8, kind: u8) -> bool
-    ensures { result ≡ between low high kind }
-{
-    low <= kind && kind <= high
-}
-
-/// Whether an update may write a node of this kind and detail.
-fn is_target(kind: u8, detail: u8) -> bool
-    ensures { result ≡ target kind detail }
-{
-    kind == 1 || within(18, 20, kind) || (kind == 15 && detail < 4)
-}
-
-/// Whether a chain may hold a node of this kind and detail.
-fn is_link(kind: u8, detail: u8) -> bool
-    ensures { result ≡ link kind detail }
-{
-    within(18, 20, kind) || (kind == 23 && detail == 0) || (kind == 15 && detail == 3)
-}
-
-impl Source<'_> {
-    /// Where the nodes that wait after `end` records, without the last of them, end.
-    pub(crate) fn before(self, end: usize) -> usize
-        requires spanned { SpannedIn self end }
-        requires some { 0 < end }
-        requires within { end ≤ length self.records.now }
-        ensures less { result < end }
-        ensures layout { waits self.entry end ≡ waits self.entry result ▸ tree_in self.entry (end - 1) }
+impl Record {
+    /// Whether it has this kind.
+    fn is(self, kind: Kind) -> bool
+        ensures { result ≡ (self.kind == number_of kind) }
     {
-        end - usize::from(self.records[end - 1].span)
+        self.kind == u8::from(kind)
     }
 
-    /// Whether the first child of the last node before `end` has this kind.
-    fn first_is(self, kind: u8, end: usize) -> bool
-        requires spanned { SpannedIn self end }
-        requires some { 0 < end }
-        requires within { end ≤ length self.records.now }
-        ensures { result ≡ first_is kind (children_in self.entry (end - 1)) }
+    /// Whether its kind stands from the first to the second.
+    fn is_among(self, first: Kind, last: Kind) -> bool
+        ensures { result ≡ within (number_of first) (number_of last) self.kind }
     {
-        let mut at = end - 1;
-        let mut left = self.records[at].count;
-        if left == 0 {
-            return false;
-        }
-        while left > 1 {
-            at = self.before(at);
-            left -= 1;
-        }
-        self.records[at - 1].kind == kind
+        (u8::from(first)..=u8::from(last)).contains(&self.kind)
     }
 
-    /// Whether the last node before `end` belongs to the set, as a child of a node with this detail.
-    fn has(self, set: Set, detail: u8, end: usize) -> bool
-        requires spanned { SpannedIn self end }
-        requires some { 0 < end }
-        requires within { end ≤ length self.records.now }
-        ensures { result ≡ belongs set detail (tree_in self.entry (end - 1)) }
+    /// Whether an update may write it.
+    fn is_target(self) -> bool
+        ensures { result ≡ target self.kind self.detail }
     {
-        let child = self.records[end - 1];
+        self.is(Kind::Identifier)
+            || self.is_among(Kind::StaticMemberExpression, Kind::PrivateFieldExpression)
+            || (self.is(Kind::TypeScriptExpression) && self.detail < INSTANTIATION)
+    }
+
+    /// Whether a chain may hold it.
+    fn is_link(self) -> bool
+        ensures { result ≡ link self.kind self.detail }
+    {
+        self.is_among(Kind::StaticMemberExpression, Kind::PrivateFieldExpression)
+            || (self.is(Kind::CallExpression) && self.detail == CALL)
+            || (self.is(Kind::TypeScriptExpression) && self.detail == NON_NULL)
+    }
+
+    /// Whether it is an expression.
+    fn is_expression(self) -> bool
+        ensures { result ≡ within 1 25 self.kind }
+    {
+        self.is_among(Kind::Identifier, Kind::ClassExpression)
+    }
+
+    /// Whether it is a pattern.
+    fn is_pattern(self) -> bool
+        ensures { result ≡ within 42 45 self.kind }
+    {
+        self.is_among(Kind::BindingIdentifier, Kind::AssignmentPattern)
+    }
+}
+
+impl Subtree<'_> {
+    ghost use Rattle.drafts.specs.Tree.{children_in};
+    ghost use Rattle.drafts.specs.Walk.{subtree};
+
+    /// Whether its first child has this kind.
+    fn starts_with(self, kind: Kind) -> bool
+        ensures { result ≡ first_is (number_of kind) (children_in self.entry.source self.entry.index) }
+    {
+        self.children()
+            .last()
+            .is_some_and(|child| child.record().is(kind))
+    }
+
+    /// Whether it belongs to the set, as a child of a node with this detail.
+    fn belongs(self, set: Set, detail: u8) -> bool
+        ensures { result ≡ belongs set detail (subtree self.entry) }
+    {
+        let record = self.record();
         match set {
             Set::Any => true,
-            Set::Kind(kind) => child.kind == kind,
-            Set::Kinds(low, high) => within(low, high, child.kind),
-            Set::Expression => within(1, 25, child.kind),
-            Set::Pattern => within(42, 45, child.kind),
-            Set::Statement => within(50, 62, child.kind),
-            Set::Target => is_target(child.kind, child.detail),
-            Set::Assigned => is_target(child.kind, child.detail) || child.kind == 38,
-            Set::Element => within(1, 25, child.kind) || within(30, 31, child.kind),
-            Set::PatternOrHole => within(42, 45, child.kind) || child.kind == 31,
-            Set::Link => is_link(child.kind, child.detail),
-            Set::Declarator => child.kind == 39 && (detail < 3 || self.first_is(42, end)),
+            Set::Only(kind) => record.is(kind),
+            Set::Expression => record.is_expression(),
+            Set::Pattern => record.is_pattern(),
+            Set::Statement => record.is_among(Kind::BlockStatement, Kind::ClassDeclaration),
+            Set::Target => record.is_target(),
+            Set::Assigned => record.is_target() || record.is(Kind::AssignmentTargetPattern),
+            Set::Element => record.is_expression()
+                || record.is_among(Kind::SpreadElement, Kind::Elision),
+            Set::PatternOrHole => record.is_pattern() || record.is(Kind::Elision),
+            Set::Property => record.is_among(Kind::ObjectProperty, Kind::SpreadProperty),
+            Set::ClassElement => record.is_among(Kind::Decorator, Kind::StaticBlock),
+            Set::Link => record.is_link(),
+            Set::Declarator => record.is(Kind::VariableDeclarator)
+                && (detail < USING || self.starts_with(Kind::BindingIdentifier)),
         }
     }
+}
 
-    /// Whether the last `left` nodes that wait after `end` records are what the first `upto` items allow.
-    pub(crate) fn fits(self, items: &[Item], upto: usize, detail: u8, end: usize, left: u16) -> bool
-        requires items { upto ≤ length items.now }
-        requires spanned { SpannedIn self end }
-        requires within { end ≤ length self.records.now }
-        requires enough { left ≤ many (waits self end) }
-        ensures { result ≡ allowed items.now detail upto (last_of left (waits self.entry end)) }
+impl Last<'_> {
+    ghost use Rattle.drafts.specs.Walk.{last_nodes};
+
+    /// Whether these nodes are what the items allow, as children of a node with this detail.
+    pub(crate) fn fit(self, items: &[Item], detail: u8) -> bool
+        ensures { result ≡ allowed items.now detail (last_nodes self.entry) }
     {
-        if upto == 0 {
-            return left == 0;
-        }
-        let item = items[upto - 1];
-        let mut end = end;
-        let mut left = left;
-        let mut least = item.least(detail);
-        let mut most = item.most(detail);
-        loop {
-            if least == 0 && self.fits(items, upto - 1, detail, end, left) {
+        let Some((item, before)) = items.split_last() else {
+            return self.count == 0;
+        };
+        let mut rest = self;
+        for taken in 0..=item.most(detail) {
+            if taken >= item.least(detail) && rest.fit(before, detail) {
                 return true;
             }
-            if left == 0 || most == 0 || !self.has(item.set(), detail, end) {
+            let Some(node) = rest.next() else {
+                return false;
+            };
+            if !node.belongs(item.set(), detail) {
                 return false;
             }
-            end = self.before(end);
-            left -= 1;
-            least = least.saturating_sub(1);
-            most -= 1;
         }
+        false
     }
+}
 
-    /// Where the subtrees of the last `count` nodes that wait after `end` records begin, if so many wait.
-    pub(crate) fn start_of(self, end: usize, count: u16) -> Option<usize>
-        requires spanned { SpannedIn self end }
-        requires within { end ≤ length self.records.now }
-        ensures { MatchOption result (many (waits self.entry end) < count) (λ start. (count ≤ many (waits self.entry end)) × (start + sizes (last_of count (waits self.entry end)) ≡ end)) }
+impl Children {
+    ghost use Rattle.std.specs.Prelude.{◌&&◌, nat_le};
+    ghost use Rattle.drafts.specs.Table.{fewest_in, items_in};
+    ghost use Rattle.drafts.specs.Tree.{many};
+    ghost use Rattle.drafts.specs.Walk.{last_nodes};
+
+    /// Whether a node with this detail may have these children.
+    #[inline(always)]
+    pub(crate) fn allow(self, nodes: Last<'_>, detail: u8) -> bool
+        ensures { result ≡ (nat_le (fewest_in self) (many (last_nodes nodes.entry)) && allowed (items_in self) detail (last_nodes nodes.entry)) }
     {
-        let mut start = end;
-        let mut left = count;
-        while left > 0 {
-            if start == 0 {
-                return None;
-            }
-            start -= usize::from(self.records[start - 1].span);
-            left -= 1;
+        match self {
+            Children::Of(items) => nodes.fit(items, detail),
+            Children::AtLeastTwo(items) => nodes.count >= 2 && nodes.fit(items, detail),
         }
-        Some(start)
     }
 }

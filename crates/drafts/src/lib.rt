@@ -6,10 +6,12 @@ mod adding;
 mod bulk;
 mod children;
 mod draft;
+mod kind;
 mod lines;
 mod record;
 mod row;
 mod text_rule;
+mod waiting;
 
 pub use adding::add;
 pub use bulk::{Opened, open_all};

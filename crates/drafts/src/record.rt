@@ -1,7 +1,7 @@
 //! Node records: a tree in post-order, each node behind its children.
 
 /// A node of a draft. Its children are the last `count` nodes that waited before it; the text is read in the file at `place`.
-#[derive(Clone, Copy, Default)]
+#[derive(Clone, Copy, Debug, Default, PartialEq, Eq)]
 pub struct Record {
     /// Where its field begins in the file.
     pub place: u16,

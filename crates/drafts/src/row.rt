@@ -1,23 +1,37 @@
 //! The rows: what a node of each kind may be.
 
-ghost use Rattle.std.specs.Prelude.{◌≡◌};
-ghost use Rattle.drafts.specs.Table.{row_of, details_of, text_of, children_of, items_of, fewest_of};
+ghost use Rattle.std.specs.Prelude.{◌≡◌, map};
+ghost use Rattle.drafts.specs.Table.{rows, shape_in, row_of};
 
-use Children::{AtLeastTwo, Leaf, Only, Pair, Three};
-use Item::{AtLeastOne, If, Many, Maybe, Nothing, One};
-use Row::{Of, Unknown};
+use super::kind::Kind;
+use Children::{AtLeastTwo, Of};
+use Item::{AtLeastOne, If, Many, Maybe, One};
 use Set::{
-    Any, Assigned, Declarator, Element, Expression, Kind, Kinds, Link, Pattern, PatternOrHole,
-    Statement, Target,
+    Any, Assigned, ClassElement, Declarator, Element, Expression, Link, Only, Pattern,
+    PatternOrHole, Property, Statement, Target,
 };
+
+/// The bit of a class's detail that says that it has a superclass.
+const HAS_SUPERCLASS: u8 = 1;
+
+/// The bit of a method's detail that says that its key is a child.
+const METHOD_HAS_KEY: u8 = 1;
+
+/// The bit of a field's detail that says that its key is a child.
+const FIELD_HAS_KEY: u8 = 4;
+
+/// The bit of a field's detail that says that it has a value.
+const FIELD_HAS_VALUE: u8 = 8;
+
+/// The bit of a case's detail that says that it has a test.
+const HAS_TEST: u8 = 1;
 
 /// Nodes that may stand at a place among the children.
 #[derive(Clone, Copy)]
 pub enum Set {
     Any,
-    Kind(u8),
-    /// From the first to the second.
-    Kinds(u8, u8),
+    /// Nodes of this kind alone.
+    Only(Kind),
     Expression,
     Pattern,
     Statement,
@@ -28,6 +42,10 @@ pub enum Set {
     /// An expression, a spread or a hole.
     Element,
     PatternOrHole,
+    /// A property of an object literal, or a spread.
+    Property,
+    /// What the body of a class holds.
+    ClassElement,
     /// What a chain holds.
     Link,
     /// What a declaration declares: under `using`, names alone.
@@ -37,7 +55,6 @@ pub enum Set {
 /// Children of a set that follow one another.
 #[derive(Clone, Copy)]
 pub enum Item {
-    Nothing,
     One(Set),
     Maybe(Set),
     Many(Set),
@@ -66,255 +83,231 @@ pub enum TextRule {
 /// The children of a node, in order.
 #[derive(Clone, Copy)]
 pub enum Children {
-    Leaf,
-    Only(Item),
-    Pair(Item, Item),
-    Three(Item, Item, Item),
+    /// Some for each item.
+    Of(&'static [Item]),
     /// The same, and two children at least.
-    AtLeastTwo(Item, Item, Item),
+    AtLeastTwo(&'static [Item]),
 }
 
-/// What a node of a kind may be.
+/// What a node of a kind may be: how many details there are, the rule of its text, and its children.
 #[derive(Clone, Copy)]
-pub enum Row {
-    /// There is no such kind.
-    Unknown,
-    /// How many details there are, the rule of its text, and its children.
-    Of(u8, TextRule, Children),
-}
+pub struct Row(pub u8, pub TextRule, pub Children);
 
-impl Children {
-    /// Its items, with `Nothing` behind them.
-    pub fn items(self) -> [Item; 3]
-        ensures { result ≡ items_of self }
-    {
-        match self {
-            Leaf => [Nothing, Nothing, Nothing],
-            Only(a) => [a, Nothing, Nothing],
-            Pair(a, b) => [a, b, Nothing],
-            Three(a, b, c) | AtLeastTwo(a, b, c) => [a, b, c],
-        }
-    }
-
-    /// The fewest children, where the items alone would allow fewer.
-    pub fn fewest(self) -> u16
-        ensures { result ≡ fewest_of self }
-    {
-        match self {
-            Leaf | Only(_) | Pair(_, _) | Three(_, _, _) => 0,
-            AtLeastTwo(_, _, _) => 2,
-        }
-    }
-}
-
-impl Row {
-    pub fn details(self) -> u8
-        ensures { result ≡ details_of self }
-    {
-        match self {
-            Unknown => 0,
-            Of(details, _, _) => details,
-        }
-    }
-
-    pub fn text(self) -> TextRule
-        ensures { result ≡ text_of self }
-    {
-        match self {
-            Unknown => TextRule::Empty,
-            Of(_, text, _) => text,
-        }
-    }
-
-    pub fn children(self) -> Children
-        ensures { result ≡ children_of self }
-    {
-        match self {
-            Unknown => Leaf,
-            Of(_, _, children) => children,
-        }
-    }
-}
-
-/// The row of each kind, from kind 0 on.
-static ROWS: [Row; 71] = [
-    Unknown,
+/// The row of each kind, from kind 0 on, or `None` where there is no such kind.
+const ROWS: &[Option<Row>] = &[
+    None,
     // 1 identifier
-    Of(1, TextRule::Name, Leaf),
+    Some(Row(1, TextRule::Name, Of(&[]))),
     // 2 null, boolean, regular expression, import.meta, new.target, super
-    Of(6, TextRule::Empty, Leaf),
+    Some(Row(6, TextRule::Empty, Of(&[]))),
     // 3 number
-    Of(1, TextRule::Number, Leaf),
+    Some(Row(1, TextRule::Number, Of(&[]))),
     // 4 BigInt
-    Of(1, TextRule::BigInt, Leaf),
+    Some(Row(1, TextRule::BigInt, Of(&[]))),
     // 5 string
-    Of(1, TextRule::Any, Leaf),
+    Some(Row(1, TextRule::Any, Of(&[]))),
     // 6 template
-    Of(1, TextRule::Childless, Only(Many(Expression))),
+    Some(Row(1, TextRule::Childless, Of(&[Many(Expression)]))),
     // 7 unary
-    Of(7, TextRule::Empty, Only(One(Expression))),
+    Some(Row(7, TextRule::Empty, Of(&[One(Expression)]))),
     // 8 update
-    Of(1, TextRule::Empty, Only(One(Target))),
+    Some(Row(1, TextRule::Empty, Of(&[One(Target)]))),
     // 9 binary
-    Of(22, TextRule::Empty, Pair(One(Expression), One(Expression))),
+    Some(Row(22, TextRule::Empty, Of(&[One(Expression), One(Expression)]))),
     // 10 logical
-    Of(3, TextRule::Empty, Pair(One(Expression), One(Expression))),
+    Some(Row(3, TextRule::Empty, Of(&[One(Expression), One(Expression)]))),
     // 11 assignment
-    Of(16, TextRule::Empty, Pair(One(Assigned), One(Expression))),
+    Some(Row(16, TextRule::Empty, Of(&[One(Assigned), One(Expression)]))),
     // 12 conditional
-    Of(
+    Some(Row(
         1,
         TextRule::Empty,
-        Three(One(Expression), One(Expression), One(Expression)),
-    ),
+        Of(&[One(Expression), One(Expression), One(Expression)]),
+    )),
     // 13 sequence
-    Of(1, TextRule::Empty, Only(AtLeastOne(Expression))),
+    Some(Row(1, TextRule::Empty, Of(&[AtLeastOne(Expression)]))),
     // 14 parenthesized
-    Of(1, TextRule::Empty, Only(One(Expression))),
+    Some(Row(1, TextRule::Empty, Of(&[One(Expression)]))),
     // 15 as, satisfies, assertion, non-null, instantiation
-    Of(5, TextRule::Empty, Only(One(Expression))),
+    Some(Row(5, TextRule::Empty, Of(&[One(Expression)]))),
     // 16 array
-    Of(1, TextRule::Empty, Only(Many(Element))),
+    Some(Row(1, TextRule::Empty, Of(&[Many(Element)]))),
     // 17 object
-    Of(1, TextRule::Empty, Only(Many(Kinds(32, 33)))),
+    Some(Row(1, TextRule::Empty, Of(&[Many(Property)]))),
     // 18 static member
-    Of(1, TextRule::Name, Only(One(Expression))),
+    Some(Row(1, TextRule::Name, Of(&[One(Expression)]))),
     // 19 computed member
-    Of(1, TextRule::Empty, Pair(One(Expression), One(Expression))),
+    Some(Row(1, TextRule::Empty, Of(&[One(Expression), One(Expression)]))),
     // 20 private member
-    Of(1, TextRule::Name, Only(One(Expression))),
+    Some(Row(1, TextRule::Name, Of(&[One(Expression)]))),
     // 21 #name in
-    Of(1, TextRule::Name, Only(One(Expression))),
+    Some(Row(1, TextRule::Name, Of(&[One(Expression)]))),
     // 22 chain
-    Of(1, TextRule::Empty, Only(One(Link))),
+    Some(Row(1, TextRule::Empty, Of(&[One(Link)]))),
     // 23 call, others
-    Of(2, TextRule::Empty, Only(Many(Any))),
+    Some(Row(2, TextRule::Empty, Of(&[Many(Any)]))),
     // 24 function, arrow
-    Of(2, TextRule::Empty, Only(Many(Any))),
+    Some(Row(2, TextRule::Empty, Of(&[Many(Any)]))),
     // 25 class expression
-    Of(
+    Some(Row(
         2,
         TextRule::Empty,
-        Pair(If(1, Expression), Many(Kinds(34, 37))),
-    ),
-    Unknown,
-    Unknown,
-    Unknown,
-    Unknown,
+        Of(&[If(HAS_SUPERCLASS, Expression), Many(ClassElement)]),
+    )),
+    None,
+    None,
+    None,
+    None,
     // 30 spread
-    Of(1, TextRule::Empty, Only(One(Expression))),
+    Some(Row(1, TextRule::Empty, Of(&[One(Expression)]))),
     // 31 hole
-    Of(1, TextRule::Empty, Leaf),
+    Some(Row(1, TextRule::Empty, Of(&[]))),
     // 32 property: init, get, set
-    Of(
+    Some(Row(
         3,
         TextRule::KeyByCount,
-        Pair(Maybe(Expression), One(Expression)),
-    ),
+        Of(&[Maybe(Expression), One(Expression)]),
+    )),
     // 33 object spread
-    Of(1, TextRule::Empty, Only(One(Expression))),
+    Some(Row(1, TextRule::Empty, Of(&[One(Expression)]))),
     // 34 decorator
-    Of(1, TextRule::Empty, Only(One(Expression))),
+    Some(Row(1, TextRule::Empty, Of(&[One(Expression)]))),
     // 35 method
-    Of(
+    Some(Row(
         2,
-        TextRule::KeyByBit(1),
-        Three(If(1, Expression), Many(Kind(34)), One(Kind(24))),
-    ),
+        TextRule::KeyByBit(METHOD_HAS_KEY),
+        Of(&[
+            If(METHOD_HAS_KEY, Expression),
+            Many(Only(Kind::Decorator)),
+            One(Only(Kind::Function)),
+        ]),
+    )),
     // 36 field
-    Of(
+    Some(Row(
         16,
-        TextRule::KeyByBit(4),
-        Three(If(4, Expression), Many(Kind(34)), If(8, Expression)),
-    ),
+        TextRule::KeyByBit(FIELD_HAS_KEY),
+        Of(&[
+            If(FIELD_HAS_KEY, Expression),
+            Many(Only(Kind::Decorator)),
+            If(FIELD_HAS_VALUE, Expression),
+        ]),
+    )),
     // 37 static block
-    Of(1, TextRule::Empty, Only(Many(Statement))),
+    Some(Row(1, TextRule::Empty, Of(&[Many(Statement)]))),
     // 38 destructuring target
-    Of(1, TextRule::Empty, Only(Many(Any))),
+    Some(Row(1, TextRule::Empty, Of(&[Many(Any)]))),
     // 39 declarator
-    Of(1, TextRule::Empty, Pair(One(Pattern), Maybe(Expression))),
+    Some(Row(1, TextRule::Empty, Of(&[One(Pattern), Maybe(Expression)]))),
     // 40 case
-    Of(2, TextRule::Empty, Pair(If(1, Expression), Many(Statement))),
+    Some(Row(
+        2,
+        TextRule::Empty,
+        Of(&[If(HAS_TEST, Expression), Many(Statement)]),
+    )),
     // 41 catch
-    Of(1, TextRule::Empty, Pair(Maybe(Pattern), One(Kind(50)))),
-    // 42 binding identifier
-    Of(1, TextRule::Name, Leaf),
-    // 43 array pattern
-    Of(
+    Some(Row(
         1,
         TextRule::Empty,
-        Pair(Many(PatternOrHole), Maybe(Kind(47))),
-    ),
+        Of(&[Maybe(Pattern), One(Only(Kind::BlockStatement))]),
+    )),
+    // 42 binding identifier
+    Some(Row(1, TextRule::Name, Of(&[]))),
+    // 43 array pattern
+    Some(Row(
+        1,
+        TextRule::Empty,
+        Of(&[Many(PatternOrHole), Maybe(Only(Kind::BindingRestElement))]),
+    )),
     // 44 object pattern
-    Of(1, TextRule::Empty, Pair(Many(Kind(46)), Maybe(Kind(47)))),
+    Some(Row(
+        1,
+        TextRule::Empty,
+        Of(&[
+            Many(Only(Kind::BindingProperty)),
+            Maybe(Only(Kind::BindingRestElement)),
+        ]),
+    )),
     // 45 default
-    Of(1, TextRule::Empty, Pair(One(Pattern), One(Expression))),
+    Some(Row(1, TextRule::Empty, Of(&[One(Pattern), One(Expression)]))),
     // 46 pattern property
-    Of(
+    Some(Row(
         1,
         TextRule::KeyByCount,
-        Pair(Maybe(Expression), One(Pattern)),
-    ),
+        Of(&[Maybe(Expression), One(Pattern)]),
+    )),
     // 47 rest
-    Of(1, TextRule::Empty, Only(One(Pattern))),
-    Unknown,
-    Unknown,
+    Some(Row(1, TextRule::Empty, Of(&[One(Pattern)]))),
+    None,
+    None,
     // 50 block
-    Of(1, TextRule::Empty, Only(Many(Statement))),
+    Some(Row(1, TextRule::Empty, Of(&[Many(Statement)]))),
     // 51 expression statement
-    Of(1, TextRule::Empty, Only(One(Expression))),
+    Some(Row(1, TextRule::Empty, Of(&[One(Expression)]))),
     // 52 while, do
-    Of(2, TextRule::Empty, Pair(One(Expression), One(Statement))),
+    Some(Row(2, TextRule::Empty, Of(&[One(Expression), One(Statement)]))),
     // 53 if
-    Of(
+    Some(Row(
         1,
         TextRule::Empty,
-        Three(One(Expression), One(Statement), Maybe(Statement)),
-    ),
+        Of(&[One(Expression), One(Statement), Maybe(Statement)]),
+    )),
     // 54 label
-    Of(1, TextRule::Empty, Only(One(Statement))),
+    Some(Row(1, TextRule::Empty, Of(&[One(Statement)]))),
     // 55 return
-    Of(1, TextRule::Empty, Only(Maybe(Expression))),
+    Some(Row(1, TextRule::Empty, Of(&[Maybe(Expression)]))),
     // 56 switch
-    Of(1, TextRule::Empty, Pair(One(Expression), Many(Kind(40)))),
-    // 57 try
-    Of(
+    Some(Row(
         1,
         TextRule::Empty,
-        AtLeastTwo(One(Kind(50)), Maybe(Kind(41)), Maybe(Kind(50))),
-    ),
+        Of(&[One(Expression), Many(Only(Kind::SwitchCase))]),
+    )),
+    // 57 try
+    Some(Row(
+        1,
+        TextRule::Empty,
+        AtLeastTwo(&[
+            One(Only(Kind::BlockStatement)),
+            Maybe(Only(Kind::CatchClause)),
+            Maybe(Only(Kind::BlockStatement)),
+        ]),
+    )),
     // 58 break, continue, empty
-    Of(1, TextRule::Empty, Leaf),
+    Some(Row(1, TextRule::Empty, Of(&[]))),
     // 59 throw, loops, with, debugger, import, export
-    Of(1, TextRule::Empty, Only(Many(Any))),
+    Some(Row(1, TextRule::Empty, Of(&[Many(Any)]))),
     // 60 variables: var, let, const, using, await using
-    Of(5, TextRule::Empty, Only(AtLeastOne(Declarator))),
+    Some(Row(5, TextRule::Empty, Of(&[AtLeastOne(Declarator)]))),
     // 61 function declaration
-    Of(1, TextRule::Empty, Only(Many(Any))),
+    Some(Row(1, TextRule::Empty, Of(&[Many(Any)]))),
     // 62 class declaration
-    Of(
+    Some(Row(
         2,
         TextRule::Empty,
-        Pair(If(1, Expression), Many(Kinds(34, 37))),
-    ),
-    Unknown,
-    Unknown,
-    Unknown,
-    Unknown,
-    Unknown,
-    Unknown,
-    Unknown,
+        Of(&[If(HAS_SUPERCLASS, Expression), Many(ClassElement)]),
+    )),
+    None,
+    None,
+    None,
+    None,
+    None,
+    None,
+    None,
     // 70 TypeScript-only declaration
-    Of(1, TextRule::Empty, Leaf),
+    Some(Row(1, TextRule::Empty, Of(&[]))),
 ];
 
-/// The row of a kind.
-pub fn row_of(kind: u8) -> Row
-    ensures { result ≡ row_of kind }
+/// The rows.
+#[inline(always)]
+fn rows() -> &'static [Option<Row>]
+    ensures { map shape_in result.now ≡ rows }
 {
-    if kind < 71 {
-        ROWS[kind as usize]
-    } else {
-        Unknown
-    }
+    ROWS
+}
+
+/// The row of a kind, if there is such a kind.
+#[inline(always)]
+pub fn row_of(kind: u8) -> Option<Row>
+    ensures { shape_in result ≡ row_of kind }
+{
+    rows().get(usize::from(kind)).copied().flatten()
 }

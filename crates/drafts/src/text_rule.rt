@@ -4,14 +4,16 @@ ghost use Rattle.std.specs.Prelude.{◌≡◌};
 ghost use Rattle.drafts.specs.TextRules.{text_fits};
 
 use super::row::TextRule;
+use packed::RawNode;
 use text::{is_big_int, is_utf8, number_literal};
 
 impl TextRule {
-    /// Whether a node with this detail and so many children may have the text.
+    /// Whether the node may have its text.
     #[inline(always)]
-    pub(crate) fn allows(self, detail: u8, count: u16, text: &[u8]) -> bool
-        ensures { result ≡ text_fits self detail count text.now }
+    pub(crate) fn allows(self, node: RawNode<'_>) -> bool
+        ensures { result ≡ text_fits self node.entry.detail node.entry.count node.entry.text.now }
     {
+        let text = node.text;
         match self {
             TextRule::Empty => text.is_empty(),
             TextRule::Name => !text.is_empty() && is_utf8(text),
@@ -19,21 +21,21 @@ impl TextRule {
             TextRule::Number => number_literal(text).is_some(),
             TextRule::BigInt => is_big_int(text),
             TextRule::Childless => {
-                if count == 0 {
+                if node.count == 0 {
                     is_utf8(text)
                 } else {
                     text.is_empty()
                 }
             }
             TextRule::KeyByCount => {
-                if count == 2 {
+                if node.count == 2 {
                     text.is_empty()
                 } else {
                     is_utf8(text)
                 }
             }
             TextRule::KeyByBit(bit) => {
-                if detail & bit == 0 {
+                if node.detail & bit == 0 {
                     is_utf8(text)
                 } else {
                     text.is_empty()

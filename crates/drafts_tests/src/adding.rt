@@ -1,8 +1,6 @@
 //! Single calls of `add`.
 
-use super::samples::{
-    FAULTS, HOLE, HOOK, check_refused, hook_table, is_same_table, record, strange, told,
-};
+use super::samples::{FAULTS, HOLE, HOOK, check_refused, hook_table, record, strange, told};
 use drafts::{Record, add, line_count, open, open_all};
 use std::process::Abort;
 
@@ -31,7 +29,7 @@ fn check_steps(
         assert_eq!(rt; draft.nodes(), *nodes);
         assert_eq!(rt; told(line_count(file, &draft, table)), (0, *lines));
     }
-    assert!(rt; is_same_table(table, records));
+    assert!(rt; *table == *records);
 }
 
 #[test]

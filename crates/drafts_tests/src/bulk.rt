@@ -1,29 +1,20 @@
 //! `open_all`, and `line_count` behind it.
 
-use super::samples::{FAULTS, HOLE, HOOK, hook_table, is_same_table, record, strange, told};
+use super::samples::{FAULTS, HOLE, HOOK, hook_table, record, strange, told};
 use drafts::{Opened, Record, add, line_count, open_all};
-use packed::Refusal;
 use std::process::Abort;
 
-/// How many nodes were added, the place where it ended, and the refusal as `told_of` has it.
+/// How many nodes were added, the place where it ended, and the refusal's number and place, twice 0 for none.
 type End = (u16, usize, (u8, usize));
-
-/// The refusal's number and place, twice 0 for none.
-fn told_of(refusal: Option<Refusal>) -> (u8, usize) {
-    match refusal {
-        None => (0, 0),
-        Some(refusal) => told(Err(refusal)),
-    }
-}
 
 /// Opens a draft of the fields from `place` on, and answers how it ended.
 fn opened(file: &[u8], table: &mut [Record], place: usize) -> End {
     let Opened {
         draft,
         place,
-        refusal,
+        outcome,
     } = open_all(file, table, place);
-    (draft.nodes(), place, told_of(refusal))
+    (draft.nodes(), place, told(outcome.map(|()| 0)))
 }
 
 /// Checks how `open_all` ends from each of these places, and what the table holds in the end.
@@ -37,7 +28,7 @@ fn check_ends(
     for (place, end) in cases {
         assert_eq!(rt; opened(file, table, *place), *end);
     }
-    assert!(rt; is_same_table(table, records));
+    assert!(rt; *table == *records);
 }
 
 #[test]

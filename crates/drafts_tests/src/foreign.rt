@@ -1,8 +1,6 @@
 //! Tables that are not the draft's own.
 
-use super::samples::{
-    FAULTS, HOLE, HOOK, check_refused, hook_table, is_same_table, record, strange, told,
-};
+use super::samples::{FAULTS, HOLE, HOOK, check_refused, hook_table, record, strange, told};
 use drafts::{Record, add, line_count, open_all};
 
 /// Two holes.
@@ -20,7 +18,7 @@ fn lent(file: &[u8], records: &mut [Record]) -> ((u8, usize), (u8, usize)) {
 /// Whether both refuse them by 8 and leave the records as they are.
 fn is_foreign(file: &[u8], records: [Record; 8]) -> bool {
     let mut table = records;
-    lent(file, &mut table) == ((8, 0), (8, file.len())) && is_same_table(&table, &records)
+    lent(file, &mut table) == ((8, 0), (8, file.len())) && table == records
 }
 
 #[test]

@@ -53,28 +53,6 @@ pub fn hook_table() -> [Record; 8] {
     ]
 }
 
-fn is_same_record(a: Record, b: Record) -> bool {
-    a.place == b.place
-        && a.kind == b.kind
-        && a.detail == b.detail
-        && a.count == b.count
-        && a.reference == b.reference
-        && a.span == b.span
-}
-
-/// Whether two tables are equally long and hold the same records.
-pub fn is_same_table(a: &[Record], b: &[Record]) -> bool {
-    if a.len() != b.len() {
-        return false;
-    }
-    for (x, y) in a.iter().zip(b.iter()) {
-        if !is_same_record(*x, *y) {
-            return false;
-        }
-    }
-    true
-}
-
 /// 0 and the answer, or the refusal's number and place.
 pub fn told(answer: Result<usize, Refusal>) -> (u8, usize) {
     match answer {
@@ -101,6 +79,6 @@ pub fn check_refused(
     let nodes = draft.nodes();
     for case in cases {
         assert_eq!(rt; told(add(file, draft, table, case.1)), *case);
-        assert!(rt; draft.nodes() == nodes && is_same_table(table, records));
+        assert!(rt; draft.nodes() == nodes && *table == *records);
     }
 }

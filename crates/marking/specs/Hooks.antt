@@ -1,5 +1,5 @@
 -- What the program reports of a hook.
-use Rattle.std.specs.Prelude.{◌≡◌, ℕ, ◌⊎◌, List, ◌++◌, Some, None, Ok, Err, codes, decimal, Result}
+use Rattle.std.specs.Prelude.{◌≡◌, ℕ, ◌⊎◌, List, ◌++◌, Ok, Err, codes, decimal, Result}
 use Rattle.packed.specs.declared.refusal.Refusal.{Refusal}
 use Rattle.drafts.specs.declared.record.Record.{Record}
 use Rattle.drafts.specs.Tree.{many, waiting}
@@ -13,7 +13,7 @@ pub record Read (file : List ℕ) (limit : ℕ) (rs new : List Record) (c : Repo
   pub place : ℕ
   pub made : host_reported limit file ≡ Ok (c.host, place)
   pub reached : ℕ
-  pub run : AddsAll file 0 rs place c.nodes new reached None
+  pub run : AddsAll file 0 rs place c.nodes new reached (Ok tt)
   pub lines : c.lines ≡ many (waiting file new c.nodes)
 
 -- the host was made, and a refusal stopped the adds
@@ -23,7 +23,7 @@ pub record Stopped (file : List ℕ) (limit : ℕ) (rs new : List Record) (e : R
   pub made : host_reported limit file ≡ Ok (host, place)
   pub nodes : ℕ
   pub reached : ℕ
-  pub run : AddsAll file 0 rs place nodes new reached (Some e)
+  pub run : AddsAll file 0 rs place nodes new reached (Err e)
 
 -- what is answered of a file, in a table for nodes and with room for `limit` scope records
 abbrev pub Reports : List ℕ → ℕ → List Record → List Record → Result Report Refusal → Type 0

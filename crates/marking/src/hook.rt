@@ -33,9 +33,7 @@ pub fn read_hook(file: &[u8], table: &mut [Record], memory: Vec<Scope>) -> Resul
 {
     let (host, place) = read_host(file, memory)?;
     let opened = open_all(file, table, place);
-    if let Some(refusal) = opened.refusal {
-        return Err(refusal);
-    }
+    opened.outcome?;
     let lines = line_count(file, &opened.draft, table)?;
     Ok(Report {
         nodes: opened.draft.nodes(),
