@@ -1,10 +1,10 @@
 -- What `parse` reads, as an index.
-use Rattle.std.proofs.Common.{◌≡◌, ℕ, suc, ◌^◌, ◌<◌, Bool, true, false, cond, ◌&&◌, eqb, ltb, List, [], ◌∷◌, length, get_or, Some, None, Ok, Err, Result, sym, refl, ap, ◌∙◌, arith, rules}
+use Rattle.std.proofs.Common.{◌≡◌, ℕ, ◌^◌, ◌<◌, Bool, true, false, cond, ◌&&◌, ltb, List, [], ◌∷◌, length, get_or, Some, None, Ok, Err, Result, sym, refl, ap, ◌∙◌, arith, rules}
 use Rattle.std.specs.Result.{OkIff, result_ok}
 use Rattle.std.specs.Str.Parse.{ParsesUnsigned}
 use Rattle.std.specs.Str.{all_ascii_digits}
 use Rattle.std.proofs.lemmas.Str.Parse.{IsNumeralModel, numerals_by_fold, parse_plain}
-use Rattle.std.proofs.lemmas.Bool.{ltb-true, lt-ltb, and_parts, and_from, ne_eqb}
+use Rattle.std.proofs.lemmas.Bool.{ltb-true, lt-ltb, and_parts, and_from}
 use Rattle.text.specs.Indices.{decimal_from, digits, digits_index}
 
 own : IsNumeralModel (λ ds. all_ascii_digits ds ≡ true) (decimal_from 0)
@@ -34,7 +34,3 @@ by_cases bs (Err e) h = refused (digits bs && ltb (decimal_from 0 bs) (2 ^ 32)) 
 
 pub digits_index_is : {E : Type 0} (bs : List ℕ) (r : Result ℕ E) → ParsesUnsigned 32 10 bs r → (get_or bs 0 0 ≡ 43 → ⊥) → result_ok r ≡ digits_index bs
 digits_index_is bs r h plain = by_cases bs r (parse_plain own 32 bs r h plain)
-
-pub first_none : (bs : List ℕ) (b : ℕ) → length bs ≡ 0 → 0 < b → false ≡ eqb (get_or bs 0 0) b
-first_none [] b e l = sym (ne_eqb 0 b (omega arith))
-first_none (c ∷ cs) b e l = absurd (let z : suc (length cs) ≡ 0 = e in omega arith)

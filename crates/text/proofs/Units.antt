@@ -3,10 +3,12 @@ use Rattle.std.proofs.Common.{◌≡◌, ℕ, suc, ◌+◌, ◌-◌, ◌/◌, �
 use lib.Utf8.{encode, encodes, scalar, scalars, scalar_cases}
 use borrow.Author.Tests.{lt-leb}
 use Rattle.std.specs.Char.{len_utf8}
+use Rattle.std.specs.List.{sum_by}
 use Rattle.std.specs.Str.{chars}
-use Rattle.std.proofs.lemmas.List.{length-append, nil_from_length}
+use Rattle.std.proofs.lemmas.List.Sums.{sum_by-cons}
+use Rattle.std.proofs.lemmas.List.{length-append}
 use Rattle.std.proofs.lemmas.Bool.{and_parts}
-use Rattle.std.proofs.lemmas.Str.{length-encode, encodes-chars, chars_past_char, chars-nil}
+use Rattle.std.proofs.lemmas.Str.{length-encode, encodes-chars}
 use Rattle.std.proofs.lemmas.Bool.Decides.{nat_tests}
 use Rattle.text.specs.CodeUnits.{encoded, code_units, leading, trailing, steps}
 
@@ -38,14 +40,10 @@ units_encodes (c ∷ cs) =
 pub units_bytes : (bs : List ℕ) → IsUtf8 bs → length (code_units (chars bs)) ≤ length bs
 units_bytes bs u = omega (arith, units_encodes (chars bs), ap length (encodes-chars bs u))
 
-pub units_more : (bs rest : List ℕ) (c n : ℕ) → IsUtf8 bs → bs ≡ encode c ++ rest → n ≡ length (encoded c) →
-    length (code_units (chars bs)) ≡ n + length (code_units (chars rest))
-units_more bs rest c n u e h =
-    ap (λ cs. length (code_units cs)) (chars_past_char bs rest c u e) ∙ length-append (encoded c) (code_units (chars rest)) ∙
-    ap (λ m. m + length (code_units (chars rest))) (sym h)
-
-pub units_none : (bs : List ℕ) → length bs ≡ 0 → length (code_units (chars bs)) ≡ 0
-units_none bs e = ap (λ xs. length (code_units (chars xs))) (nil_from_length bs e) ∙ ap (λ cs. length (code_units cs)) chars-nil
+-- a text has as many code units as its characters have together
+pub sum_units : (cs : List ℕ) → sum_by (λ c. length (encoded c)) cs ≡ length (code_units cs)
+sum_units [] = refl
+sum_units (c ∷ cs) = sum_by-cons (λ c. length (encoded c)) c cs ∙ ap (λ n. length (encoded c) + n) (sum_units cs) ∙ sym (length-append (encoded c) (code_units cs))
 
 -- an iteration takes one step for each scalar value
 

@@ -8,12 +8,7 @@ ghost use Rattle.text.specs.BigInts.{positive, big_int};
 fn all_digits(text: &[u8]) -> bool
     ensures { result ≡ all_ascii_digits text.now }
 {
-    for b in text {
-        if !b.is_ascii_digit() {
-            return false;
-        }
-    }
-    true
+    text.iter().all(|b| b.is_ascii_digit())
 }
 
 /// Whether the text is digits, the first not `0`.
@@ -21,8 +16,7 @@ fn is_positive(text: &[u8]) -> bool
     ensures { result ≡ positive text.now }
 {
     match text {
-        [] => false,
-        [b'0', ..] => false,
+        [] | [b'0', ..] => false,
         _ => all_digits(text),
     }
 }
@@ -32,15 +26,8 @@ pub fn is_big_int(text: &[u8]) -> bool
     ensures { result ≡ big_int text.now }
 {
     match text {
-        [] => false,
-        [first, rest @ ..] => {
-            if *first == b'-' {
-                return is_positive(rest);
-            }
-            if *first == b'0' {
-                return rest.is_empty();
-            }
-            is_positive(text)
-        }
+        [b'0'] => true,
+        [b'-', rest @ ..] => is_positive(rest),
+        _ => is_positive(text),
     }
 }

@@ -10,19 +10,13 @@ const INFINITY: u64 = 0x7ff0_0000_0000_0000;
 fn literal_of(bits: u64) -> Option<f64>
     ensures { result ≡ literal bits }
 {
-    if bits <= INFINITY {
-        Some(f64::from_bits(bits))
-    } else {
-        None
-    }
+    (bits <= INFINITY).then(|| f64::from_bits(bits))
 }
 
 /// The float that eight bytes write, the high one first, unless it is a NaN or has the sign set.
 pub fn number_literal(bytes: &[u8]) -> Option<f64>
     ensures { result ≡ literal_bytes bytes.now }
 {
-    let [a, b, c, d, e, f, g, h] = bytes else {
-        return None;
-    };
-    literal_of(u64::from_be_bytes([*a, *b, *c, *d, *e, *f, *g, *h]))
+    let eight = <[u8; 8]>::try_from(bytes).ok()?;
+    literal_of(u64::from_be_bytes(eight))
 }

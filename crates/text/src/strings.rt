@@ -8,11 +8,7 @@ ghost use Rattle.text.specs.CodeUnits.{code_units, steps};
 pub fn string_length(text: &str) -> usize
     ensures { result ≡ length (code_units (chars text.now)) }
 {
-    let mut n = 0;
-    for c in text.chars() {
-        n += c.len_utf16();
-    }
-    n
+    text.chars().map(|c| c.len_utf16()).sum()
 }
 
 /// How many steps an iteration over the string has: one for each code point.

@@ -12,11 +12,7 @@ fn to_integer_index(x: f64) -> Option<u32>
     ensures { result ≡ float_index x }
 {
     let n = saturating_f64_to_u32(x);
-    if f64::from(n).to_bits() == x.to_bits() {
-        Some(n)
-    } else {
-        None
-    }
+    (f64::from(n).to_bits() == x.to_bits()).then_some(n)
 }
 
 /// The index that the text of a number literal writes.
@@ -27,21 +23,11 @@ pub fn number_index(text: &[u8]) -> Option<u32>
     to_integer_index(x)
 }
 
-/// Whether the text starts with `+`.
-fn has_plus(text: &[u8]) -> bool
-    ensures { result ≡ (slice_index text.now 0 == 43) }
-{
-    match text {
-        [] => false,
-        [first, ..] => *first == b'+',
-    }
-}
-
 /// The index that the text of a BigInt literal writes, read off its digits; `parse` would take a `+` too.
 pub fn big_int_index(text: &str) -> Option<u32>
     ensures { result ≡ digits_index text.now }
 {
-    if has_plus(text.as_bytes()) {
+    if text.starts_with('+') {
         return None;
     }
     text.parse::<u32>().ok()

@@ -10,8 +10,5 @@ pub fn is_utf8(bytes: &[u8]) -> bool
     ensures test { result ≡ utf8 bytes.now }
     ensures means { MatchBool result (IsUtf8 bytes.now) (IsUtf8 bytes.now → ⊥) }
 {
-    match from_utf8(bytes) {
-        Ok(_) => true,
-        Err(_) => false,
-    }
+    from_utf8(bytes).is_ok()
 }

@@ -1,19 +1,11 @@
-use Rattle.std.proofs.Common.{◌+◌, ◌&&◌, drop, sym, ap, ◌∙◌}
-use Rattle.std.specs.Str.{all_ascii_digits}
-use Rattle.std.proofs.lemmas.List.{at_drop_more, at_drop_all}
+use Rattle.std.proofs.Common.{◌∙◌, rules, tests}
+use Rattle.std.specs.Char.{is_ascii_digit}
+use Rattle.std.proofs.lemmas.Iterator.{YieldsList-from_slice}
+use Rattle.std.proofs.lemmas.Iterator.Search.{all_from_yields_List}
+use Rattle.text.proofs.Digits.{each_digit}
 use Rattle.text.proofs.big_int.all_digits.Goals as goal
 
-pub returns-then-not-is_ascii_digit : goal.returns-then-not-is_ascii_digit
-returns-then-not-is_ascii_digit c =
-    let xs = c.args.text.now in
-    let i = c.loop-b.b-index in
-    ap (λ b. b && all_ascii_digits (drop (i + 1) xs)) c.if-not-is_ascii_digit.ensures.value ∙ sym (at_drop_more all_ascii_digits xs i 0 c.loop-b-test.true) ∙ c.loop-b.invariant
-
-pub loop-b-preserved : goal.loop-b-preserved
-loop-b-preserved c =
-    let xs = c.args.text.now in
-    let i = c.loop-b.b-index in
-    ap (λ b. b && all_ascii_digits (drop (i + 1) xs)) c.if-not-is_ascii_digit.ensures.value ∙ sym (at_drop_more all_ascii_digits xs i 0 c.loop-b-test.true) ∙ c.loop-b.invariant
-
 pub returns : goal.returns
-returns c = sym (at_drop_all all_ascii_digits c.args.text.now c.loop-b.b-index c.loop-b-test.false) ∙ c.loop-b.invariant
+returns c =
+    all_from_yields_List is_ascii_digit _ _ _ c.all.ensures.ran (YieldsList-from_slice c.args.text.now (cc)) (λ x b q k. search (rules, tests))
+    ∙ each_digit c.args.text.now

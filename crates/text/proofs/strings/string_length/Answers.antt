@@ -1,21 +1,22 @@
-use Rattle.std.proofs.Common.{arith, rules}
-use Rattle.std.specs.Str.Iter.{chars_rest}
-use Rattle.std.proofs.lemmas.Str.{IsUtf8-past_char}
-use Rattle.text.proofs.Units.{units_bytes, units_are, units_more, units_none}
+use Rattle.std.proofs.Common.{◌∙◌, ◌<◌, ◌^◌, length, rules, tests, arith}
+use Rattle.std.specs.Str.{chars}
+use Rattle.std.specs.List.{sum_by}
+use Rattle.std.proofs.lemmas.Iterator.{YieldsList-from_chars, YieldsList-from_map}
+use Rattle.std.proofs.lemmas.Iterator.Consumers.{sum_by_from_yields_List, fits_by_from_yields_list}
+use Rattle.text.specs.CodeUnits.{encoded}
+use Rattle.text.proofs.Units.{units_are, sum_units, units_bytes}
 use Rattle.text.proofs.strings.string_length.Goals as goal
 
-pub overflow_add-n : goal.overflow_add-n
-overflow_add-n c =
-    let more = units_more (chars_rest c.loop-c.c-iterator) (chars_rest c.next.new.self) c.in-Some.c c.len_utf16-n.result c.loop-c.invariant.3 c.in-Some.ensures.steps.0
-    (units_are c.in-Some.c c.len_utf16-n.result c.len_utf16-n.ensures.bmp c.len_utf16-n.ensures.surrogate_pair) in
-    let whole = units_bytes c.args.text.now (search rules) in
-    omega (arith, more, whole)
-
-pub loop-c-preserved : goal.loop-c-preserved
-loop-c-preserved c =
-    let more = units_more (chars_rest c.loop-c.c-iterator) (chars_rest c.next.new.self) c.in-Some.c c.len_utf16-n.result c.loop-c.invariant.3 c.in-Some.ensures.steps.0
-    (units_are c.in-Some.c c.len_utf16-n.result c.len_utf16-n.ensures.bmp c.len_utf16-n.ensures.surrogate_pair) in
-    (tt, tt, omega (arith, more), IsUtf8-past_char (chars_rest c.loop-c.c-iterator) (chars_rest c.next.new.self) c.in-Some.c c.loop-c.invariant.3 c.in-Some.ensures.steps.0)
+pub sum-requires-clause-fits : goal.sum-requires-clause-fits
+sum-requires-clause-fits c =
+    let whole = units_bytes c.args.text.now c.utf8.text in
+    let sum = sum_units (chars c.args.text.now) in
+    let fits : sum_by (λ u. length (encoded u)) (chars c.args.text.now) < 2 ^ 64 = omega arith in
+    fits_by_from_yields_list (λ u. length (encoded u)) (chars c.args.text.now) c.map.result _
+    (YieldsList-from_map _ (λ u. length (encoded u)) (YieldsList-from_chars c.args.text.now c.utf8.text (cc)) c.map.ensures.closure (λ x r q k. search (rules, tests, units_are))) fits
 
 pub returns : goal.returns
-returns c = omega (arith, units_none (chars_rest c.loop-c.c-iterator) c.in-None.ensures.steps.0.0)
+returns c =
+    sum_by_from_yields_List (λ u. length (encoded u)) (chars c.args.text.now) c.map.result _ c.sum.ensures.ran
+    (YieldsList-from_map _ (λ u. length (encoded u)) (YieldsList-from_chars c.args.text.now c.utf8.text (cc)) c.map.ensures.closure (λ x r q k. search (rules, tests, units_are)))
+    ∙ sum_units (chars c.args.text.now)
