@@ -1,3 +1,2 @@
 pub mod Ascent
 pub mod Listed
-pub mod Cut
