@@ -1,6 +1,6 @@
--- Names that are in a list or not, and a walk through the list.
-use Rattle.std.proofs.Common.{◌≡◌, ℕ, ◌+◌, ◌<◌, ◌≤◌, Bool, true, false, ◌||◌, List, [], ◌∷◌, ◌++◌, map, length, get_or, drop, sym, refl, ap, ◌∙◌}
-use Rattle.std.proofs.lemmas.List.{at_drop_more, at_drop_all}
+-- Names that are in a list or not.
+use Rattle.std.proofs.Common.{◌≡◌, ℕ, Bool, true, false, ◌||◌, List, [], ◌∷◌, ◌++◌, sym, refl, ap, ◌∙◌}
+use Rattle.std.specs.List.{flat_map, list_any}
 use Rattle.std.specs.Str.{bytes_eq}
 use Rattle.std.proofs.lemmas.Slice.Eq.{bytes_eq-Decides}
 use Rattle.tables.specs.Order.{listed}
@@ -14,22 +14,6 @@ differ true x k e h = absurd (h (sym ((bytes_eq-Decides x k).0 e)))
 
 pub other : (x k : List ℕ) → (k ≡ x → ⊥) → bytes_eq x k ≡ false
 other x k h = differ (bytes_eq x k) x k refl h
-
--- One step of a walk through a list xs of texts: what is left from i on decides.
-module _ {R : Type 0} (f : R → List ℕ) (xs : List R) (k : List ℕ) (i : ℕ) (d : R) (within : i < length xs) (left : listed (map f (drop i xs)) k ≡ listed (map f xs) k) where
-  here : listed (map f (drop i xs)) k ≡ (bytes_eq (f (get_or xs i d)) k || listed (map f (drop (i + 1) xs)) k)
-  here = at_drop_more (λ ys. listed (map f ys) k) xs i d within
-
-  pub walk_found : true ≡ bytes_eq (f (get_or xs i d)) k → true ≡ listed (map f xs) k
-  walk_found h =
-      sym (ap (λ b. b || listed (map f (drop (i + 1) xs)) k) (sym h)) ∙ sym here ∙ left
-
-  pub walk_on : false ≡ bytes_eq (f (get_or xs i d)) k → listed (map f (drop (i + 1) xs)) k ≡ listed (map f xs) k
-  walk_on h =
-      sym (ap (λ b. b || listed (map f (drop (i + 1) xs)) k) (sym h)) ∙ sym here ∙ left
-
-pub walk_end : {R : Type 0} (f : R → List ℕ) (xs : List R) (k : List ℕ) (i : ℕ) → length xs ≤ i → listed (map f (drop i xs)) k ≡ listed (map f xs) k → false ≡ listed (map f xs) k
-walk_end f xs k i l left = sym (at_drop_all (λ ys. listed (map f ys) k) xs i l) ∙ left
 
 or_assoc : (a b c : Bool) → ((a || b) || c) ≡ (a || (b || c))
 or_assoc true b c = refl
@@ -45,3 +29,8 @@ in_first xs ys k first e t = t ∙ ap (λ b. b || listed ys k) (sym t ∙ e) ∙
 
 pub in_second : (xs ys : List (List ℕ)) (k : List ℕ) (first second : Bool) → first ≡ listed xs k → first ≡ false → second ≡ listed ys k → second ≡ listed (xs ++ ys) k
 in_second xs ys k first second e f s = s ∙ ap (λ b. b || listed ys k) (sym f ∙ e) ∙ listed_both xs ys k
+
+-- a name is in some of the lists where it is in all of them together
+pub in_any : (xss : List (List (List ℕ))) (k : List ℕ) → list_any (λ xs. listed xs k) xss ≡ listed (flat_map (λ xs. xs) xss) k
+in_any [] k = refl
+in_any (xs ∷ xss) k = ap (λ b. listed xs k || b) (in_any xss k) ∙ listed_both xs (flat_map (λ ys. ys) xss) k

@@ -8,8 +8,6 @@ mod constructors;
 mod identifiers;
 mod names;
 mod properties;
-mod sets;
-mod starts;
 
 pub use constructors::is_known_global_constructor;
 pub use identifiers::is_known_global_identifier;

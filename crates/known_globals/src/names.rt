@@ -1,168 +1,702 @@
 //! The names of the known global identifiers, in byte order.
+//!
+//! They stand in four tables: one constant of all the names takes more steps than the check of a constant may.
 
-ghost use Rattle.std.specs.Prelude.{◌≡◌, ◌<◌, ◌≤◌, [], length, slice_index, slice_index_or};
-ghost use Rattle.tables.specs.Packed.{packed, starts};
-ghost use Rattle.known_globals.specs.Identifiers.{known_names};
+ghost use Rattle.std.specs.Prelude.{◌≡◌, true, map};
+ghost use Rattle.tables.specs.Order.{ascends, listed};
 
-use crate::starts::STARTS;
+use std::cmp::Ordering;
+use tables::{Ascending, OrderedTable, find};
 
-/// All names, end to end.
-const NAMES: &[u8] = b"AbortControllerAbortSignalAggregateErrorAnalyserNodeAnimation\
-    AnimationEffectAnimationEventAnimationPlaybackEventAnimationTimelineArray\
-    ArrayBufferAttrAudioAudioBufferAudioBufferSourceNodeAudioDestinationNode\
-    AudioListenerAudioNodeAudioParamAudioProcessingEventAudioScheduledSourceNode\
-    BarPropBeforeUnloadEventBigIntBiquadFilterNodeBlobBlobEventBoolean\
-    ByteLengthQueuingStrategyCDATASectionCSSCSSAnimationCSSFontFaceRule\
-    CSSImportRuleCSSKeyframeRuleCSSKeyframesRuleCSSMediaRuleCSSNamespaceRule\
-    CSSPageRuleCSSRuleCSSRuleListCSSStyleDeclarationCSSStyleRule\
-    CSSStyleSheetCSSSupportsRuleCSSTransitionCanvasGradientCanvasPattern\
-    CanvasRenderingContext2DChannelMergerNodeChannelSplitterNodeCharacterData\
-    ClipboardEventCloseEventCommentCompositionEventConvolverNode\
-    CountQueuingStrategyCryptoCustomElementRegistryCustomEventDOMException\
-    DOMImplementationDOMMatrixDOMMatrixReadOnlyDOMParserDOMPoint\
-    DOMPointReadOnlyDOMQuadDOMRectDOMRectListDOMRectReadOnlyDOMStringList\
-    DOMStringMapDOMTokenListDataTransferDataTransferItemDataTransferItemList\
-    DataViewDateDelayNodeDocumentDocumentFragmentDocumentTimeline\
-    DocumentTypeDragEventDynamicsCompressorNodeElementErrorErrorEvent\
-    EvalErrorEventEventSourceEventTargetFileFileListFileReader\
-    Float32ArrayFloat64ArrayFocusEventFontFaceFormDataFunctionGainNode\
-    GamepadGamepadButtonGamepadEventGeolocationGeolocationPositionError\
-    HTMLAllCollectionHTMLAnchorElementHTMLAreaElementHTMLAudioElement\
-    HTMLBRElementHTMLBaseElementHTMLBodyElementHTMLButtonElement\
-    HTMLCanvasElementHTMLCollectionHTMLDListElementHTMLDataElement\
-    HTMLDataListElementHTMLDetailsElementHTMLDirectoryElementHTMLDivElement\
-    HTMLDocumentHTMLElementHTMLEmbedElementHTMLFieldSetElementHTMLFontElement\
-    HTMLFormControlsCollectionHTMLFormElementHTMLFrameElementHTMLFrameSetElement\
-    HTMLHRElementHTMLHeadElementHTMLHeadingElementHTMLHtmlElement\
-    HTMLIFrameElementHTMLImageElementHTMLInputElementHTMLLIElement\
-    HTMLLabelElementHTMLLegendElementHTMLLinkElementHTMLMapElement\
-    HTMLMarqueeElementHTMLMediaElementHTMLMenuElementHTMLMetaElement\
-    HTMLMeterElementHTMLModElementHTMLOListElementHTMLObjectElement\
-    HTMLOptGroupElementHTMLOptionElementHTMLOptionsCollectionHTMLOutputElement\
-    HTMLParagraphElementHTMLParamElementHTMLPictureElementHTMLPreElement\
-    HTMLProgressElementHTMLQuoteElementHTMLScriptElementHTMLSelectElement\
-    HTMLSlotElementHTMLSourceElementHTMLSpanElementHTMLStyleElement\
-    HTMLTableCaptionElementHTMLTableCellElementHTMLTableColElementHTMLTableElement\
-    HTMLTableRowElementHTMLTableSectionElementHTMLTemplateElementHTMLTextAreaElement\
-    HTMLTimeElementHTMLTitleElementHTMLTrackElementHTMLUListElement\
-    HTMLUnknownElementHTMLVideoElementHashChangeEventHeadersHistoryIDBCursor\
-    IDBCursorWithValueIDBDatabaseIDBFactoryIDBIndexIDBKeyRangeIDBObjectStore\
-    IDBOpenDBRequestIDBRequestIDBTransactionIDBVersionChangeEventImage\
-    ImageDataInputEventInt16ArrayInt32ArrayInt8ArrayIntersectionObserver\
-    IntersectionObserverEntryIntlJSONKeyboardEventKeyframeEffectLocation\
-    MapMathMediaCapabilitiesMediaElementAudioSourceNodeMediaEncryptedEvent\
-    MediaErrorMediaListMediaQueryListMediaQueryListEventMediaRecorder\
-    MediaSourceMediaStreamMediaStreamAudioDestinationNodeMediaStreamAudioSourceNode\
-    MediaStreamTrackMediaStreamTrackEventMessageChannelMessageEventMessagePort\
-    MimeTypeMimeTypeArrayMouseEventMutationEventMutationObserver\
-    MutationRecordNamedNodeMapNavigatorNodeNodeFilterNodeIterator\
-    NodeListNotificationNumberObjectOfflineAudioCompletionEventOption\
-    OscillatorNodePageTransitionEventPath2DPerformancePerformanceEntry\
-    PerformanceMarkPerformanceMeasurePerformanceNavigationPerformanceObserver\
-    PerformanceObserverEntryListPerformanceResourceTimingPerformanceTiming\
-    PeriodicWavePluginPluginArrayPointerEventPopStateEvent\
-    ProcessingInstructionProgressEventPromisePromiseRejectionEventProxy\
-    RTCCertificateRTCDTMFSenderRTCDTMFToneChangeEventRTCDataChannel\
-    RTCDataChannelEventRTCIceCandidateRTCPeerConnectionRTCPeerConnectionIceEvent\
-    RTCRtpReceiverRTCRtpSenderRTCRtpTransceiverRTCSessionDescription\
-    RTCStatsReportRTCTrackEventRadioNodeListRangeRangeErrorReadableStream\
-    ReferenceErrorReflectRegExpRequestResizeObserverResizeObserverEntry\
-    ResponseSVGAElementSVGAngleSVGAnimateElementSVGAnimateMotionElement\
-    SVGAnimateTransformElementSVGAnimatedAngleSVGAnimatedBoolean\
-    SVGAnimatedEnumerationSVGAnimatedIntegerSVGAnimatedLengthSVGAnimatedLengthList\
-    SVGAnimatedNumberSVGAnimatedNumberListSVGAnimatedPreserveAspectRatio\
-    SVGAnimatedRectSVGAnimatedStringSVGAnimatedTransformListSVGAnimationElement\
-    SVGCircleElementSVGClipPathElementSVGComponentTransferFunctionElement\
-    SVGDefsElementSVGDescElementSVGElementSVGEllipseElementSVGFEBlendElement\
-    SVGFEColorMatrixElementSVGFEComponentTransferElementSVGFECompositeElement\
-    SVGFEConvolveMatrixElementSVGFEDiffuseLightingElementSVGFEDisplacementMapElement\
-    SVGFEDistantLightElementSVGFEDropShadowElementSVGFEFloodElementSVGFEFuncAElement\
-    SVGFEFuncBElementSVGFEFuncGElementSVGFEFuncRElementSVGFEGaussianBlurElement\
-    SVGFEImageElementSVGFEMergeElementSVGFEMergeNodeElementSVGFEMorphologyElement\
-    SVGFEOffsetElementSVGFEPointLightElementSVGFESpecularLightingElement\
-    SVGFESpotLightElementSVGFETileElementSVGFETurbulenceElementSVGFilterElement\
-    SVGForeignObjectElementSVGGElementSVGGeometryElementSVGGradientElement\
-    SVGGraphicsElementSVGImageElementSVGLengthSVGLengthListSVGLineElement\
-    SVGLinearGradientElementSVGMPathElementSVGMarkerElementSVGMaskElement\
-    SVGMatrixSVGMetadataElementSVGNumberSVGNumberListSVGPathElement\
-    SVGPatternElementSVGPointSVGPointListSVGPolygonElementSVGPolylineElement\
-    SVGPreserveAspectRatioSVGRadialGradientElementSVGRectSVGRectElement\
-    SVGSVGElementSVGScriptElementSVGSetElementSVGStopElementSVGStringList\
-    SVGStyleElementSVGSwitchElementSVGSymbolElementSVGTSpanElement\
-    SVGTextContentElementSVGTextElementSVGTextPathElementSVGTextPositioningElement\
-    SVGTitleElementSVGTransformSVGTransformListSVGUnitTypesSVGUseElement\
-    SVGViewElementScreenScriptProcessorNodeSecurityPolicyViolationEventSelection\
-    SetShadowRootSourceBufferSourceBufferListSpeechSynthesisEvent\
-    SpeechSynthesisUtteranceStaticRangeStorageStorageEventStringStyleSheet\
-    StyleSheetListSymbolSyntaxErrorTextTextDecoderTextEncoderTextMetrics\
-    TextTrackTextTrackCueTextTrackCueListTextTrackListTimeRangesTrackEvent\
-    TransitionEventTreeWalkerTypeErrorUIEventURIErrorURLURLSearchParams\
-    Uint16ArrayUint32ArrayUint8ArrayUint8ClampedArrayVTTCueValidityState\
-    VisualViewportWaveShaperNodeWeakMapWeakSetWebAssemblyWebGLActiveInfo\
-    WebGLBufferWebGLContextEventWebGLFramebufferWebGLProgramWebGLQuery\
-    WebGLRenderbufferWebGLRenderingContextWebGLSamplerWebGLShader\
-    WebGLShaderPrecisionFormatWebGLSyncWebGLTextureWebGLUniformLocation\
-    WebKitCSSMatrixWebSocketWheelEventWindowWorkerXMLDocument\
-    XMLHttpRequestXMLHttpRequestEventTargetXMLHttpRequestUploadXMLSerializer\
-    XPathEvaluatorXPathExpressionXPathResultXSLTProcessoralertatobblur\
-    btoacancelAnimationFramecaptureEventsclearIntervalclearTimeoutclose\
-    closedconfirmconsolecustomElementsdecodeURIdecodeURIComponent\
-    devicePixelRatiodocumentencodeURIencodeURIComponentescapeeventfetch\
-    findfocusframeElementframesgetComputedStylegetSelectionglobalThis\
-    historyindexedDBisFiniteisNaNisSecureContextlengthlocation\
-    locationbarmatchMediamenubarmoveBymoveTonamenavigatoronabort\
-    onafterprintonanimationendonanimationiterationonanimationstartonbeforeprint\
-    onbeforeunloadonbluroncanplayoncanplaythroughonchangeonclick\
-    oncontextmenuoncuechangeondblclickondragondragendondragenter\
-    ondragleaveondragoverondragstartondropondurationchangeonemptied\
-    onendedonerroronfocusongotpointercaptureonhashchangeoninputoninvalid\
-    onkeydownonkeypressonkeyuponlanguagechangeonloadonloadeddata\
-    onloadedmetadataonloadstartonlostpointercaptureonmessageonmousedown\
-    onmouseenteronmouseleaveonmousemoveonmouseoutonmouseoveronmouseup\
-    onofflineononlineonpagehideonpageshowonpauseonplayonplaying\
-    onpointercancelonpointerdownonpointerenteronpointerleaveonpointermove\
-    onpointeroutonpointeroveronpointeruponpopstateonprogressonratechange\
-    onrejectionhandledonresetonresizeonscrollonseekedonseekingonselect\
-    onstalledonstorageonsubmitonsuspendontimeupdateontoggle\
-    ontransitioncancelontransitionendontransitionrunontransitionstart\
-    onunhandledrejectiononunloadonvolumechangeonwaitingonwebkitanimationend\
-    onwebkitanimationiterationonwebkitanimationstartonwebkittransitionendonwheel\
-    openopeneroriginouterHeightouterWidthparentparseFloatparseInt\
-    performancepersonalbarpostMessageprintpromptqueueMicrotask\
-    releaseEventsrequestAnimationFrameresizeByresizeToscreenscreenLeft\
-    screenTopscreenXscreenYscrollscrollByscrollToscrollbarsself\
-    setIntervalsetTimeoutspeechSynthesisstatusstatusbarstoptoolbar\
-    topunescapewebkitURLwindow";
-
-/// How many names there are.
-pub fn count() -> usize
-    ensures { result ≡ length known_names }
-{
-    STARTS.len() - 1
+/// Names in strictly ascending byte order.
+#[derive(Drop)]
+pub struct Names {
+    pub names: &'static [&'static str],
+    ghost ascent: { ascends (map (λ n. n.now) names.now) ≡ true },
 }
 
-/// The name at place `i`.
-pub fn name_at(i: usize) -> &'static [u8]
-    requires { i < length known_names }
-    ensures { result.now ≡ slice_index_or known_names i [] }
-{
-    let names = all_names();
-    let start = start_of(i);
-    let end = start_of(i + 1);
-    &names[start..end]
+impl Ascending for Names {
+    type Entry = &'static str;
+
+    ghost key = { λ n. n.now };
+
+    ghost keys = { λ t. map (λ n. n.now) t.names.now };
+
+    ghost ascent = { λ t. t.ascent };
+
+    fn entries(&self) -> &[&'static str] {
+        self.names
+    }
 }
 
-/// All names, end to end.
-fn all_names() -> &'static [u8]
-    ensures { result.now ≡ packed known_names }
-{
-    NAMES
+impl<'a> OrderedTable<&'a str> for Names {
+    ghost sought = { λ k. k.now };
+
+    fn compare(entry: &&'static str, key: &'a str) -> Ordering {
+        (*entry).cmp(&key)
+    }
 }
 
-/// Where the name at place `i` starts, or, past the last, where that one ends.
-fn start_of(i: usize) -> usize
-    requires { i ≤ length known_names }
-    ensures { result ≡ slice_index (starts known_names) i }
-{
-    STARTS[i] as usize
+impl Names {
+    /// Whether the name is one of these.
+    pub fn has(&self, name: &str) -> bool
+        ensures { result ≡ listed (map (λ n. n.now) self.now.names.now) name.now }
+    {
+        find(self, name).is_some()
+    }
 }
+
+/// The names that begin with `A` to `G`.
+pub const A_TO_G: &[&str] = &[
+    "AbortController",
+    "AbortSignal",
+    "AggregateError",
+    "AnalyserNode",
+    "Animation",
+    "AnimationEffect",
+    "AnimationEvent",
+    "AnimationPlaybackEvent",
+    "AnimationTimeline",
+    "Array",
+    "ArrayBuffer",
+    "Attr",
+    "Audio",
+    "AudioBuffer",
+    "AudioBufferSourceNode",
+    "AudioDestinationNode",
+    "AudioListener",
+    "AudioNode",
+    "AudioParam",
+    "AudioProcessingEvent",
+    "AudioScheduledSourceNode",
+    "BarProp",
+    "BeforeUnloadEvent",
+    "BigInt",
+    "BiquadFilterNode",
+    "Blob",
+    "BlobEvent",
+    "Boolean",
+    "ByteLengthQueuingStrategy",
+    "CDATASection",
+    "CSS",
+    "CSSAnimation",
+    "CSSFontFaceRule",
+    "CSSImportRule",
+    "CSSKeyframeRule",
+    "CSSKeyframesRule",
+    "CSSMediaRule",
+    "CSSNamespaceRule",
+    "CSSPageRule",
+    "CSSRule",
+    "CSSRuleList",
+    "CSSStyleDeclaration",
+    "CSSStyleRule",
+    "CSSStyleSheet",
+    "CSSSupportsRule",
+    "CSSTransition",
+    "CanvasGradient",
+    "CanvasPattern",
+    "CanvasRenderingContext2D",
+    "ChannelMergerNode",
+    "ChannelSplitterNode",
+    "CharacterData",
+    "ClipboardEvent",
+    "CloseEvent",
+    "Comment",
+    "CompositionEvent",
+    "ConvolverNode",
+    "CountQueuingStrategy",
+    "Crypto",
+    "CustomElementRegistry",
+    "CustomEvent",
+    "DOMException",
+    "DOMImplementation",
+    "DOMMatrix",
+    "DOMMatrixReadOnly",
+    "DOMParser",
+    "DOMPoint",
+    "DOMPointReadOnly",
+    "DOMQuad",
+    "DOMRect",
+    "DOMRectList",
+    "DOMRectReadOnly",
+    "DOMStringList",
+    "DOMStringMap",
+    "DOMTokenList",
+    "DataTransfer",
+    "DataTransferItem",
+    "DataTransferItemList",
+    "DataView",
+    "Date",
+    "DelayNode",
+    "Document",
+    "DocumentFragment",
+    "DocumentTimeline",
+    "DocumentType",
+    "DragEvent",
+    "DynamicsCompressorNode",
+    "Element",
+    "Error",
+    "ErrorEvent",
+    "EvalError",
+    "Event",
+    "EventSource",
+    "EventTarget",
+    "File",
+    "FileList",
+    "FileReader",
+    "Float32Array",
+    "Float64Array",
+    "FocusEvent",
+    "FontFace",
+    "FormData",
+    "Function",
+    "GainNode",
+    "Gamepad",
+    "GamepadButton",
+    "GamepadEvent",
+    "Geolocation",
+    "GeolocationPositionError",
+];
+
+/// The names that begin with `H` to `R`.
+pub const H_TO_R: &[&str] = &[
+    "HTMLAllCollection",
+    "HTMLAnchorElement",
+    "HTMLAreaElement",
+    "HTMLAudioElement",
+    "HTMLBRElement",
+    "HTMLBaseElement",
+    "HTMLBodyElement",
+    "HTMLButtonElement",
+    "HTMLCanvasElement",
+    "HTMLCollection",
+    "HTMLDListElement",
+    "HTMLDataElement",
+    "HTMLDataListElement",
+    "HTMLDetailsElement",
+    "HTMLDirectoryElement",
+    "HTMLDivElement",
+    "HTMLDocument",
+    "HTMLElement",
+    "HTMLEmbedElement",
+    "HTMLFieldSetElement",
+    "HTMLFontElement",
+    "HTMLFormControlsCollection",
+    "HTMLFormElement",
+    "HTMLFrameElement",
+    "HTMLFrameSetElement",
+    "HTMLHRElement",
+    "HTMLHeadElement",
+    "HTMLHeadingElement",
+    "HTMLHtmlElement",
+    "HTMLIFrameElement",
+    "HTMLImageElement",
+    "HTMLInputElement",
+    "HTMLLIElement",
+    "HTMLLabelElement",
+    "HTMLLegendElement",
+    "HTMLLinkElement",
+    "HTMLMapElement",
+    "HTMLMarqueeElement",
+    "HTMLMediaElement",
+    "HTMLMenuElement",
+    "HTMLMetaElement",
+    "HTMLMeterElement",
+    "HTMLModElement",
+    "HTMLOListElement",
+    "HTMLObjectElement",
+    "HTMLOptGroupElement",
+    "HTMLOptionElement",
+    "HTMLOptionsCollection",
+    "HTMLOutputElement",
+    "HTMLParagraphElement",
+    "HTMLParamElement",
+    "HTMLPictureElement",
+    "HTMLPreElement",
+    "HTMLProgressElement",
+    "HTMLQuoteElement",
+    "HTMLScriptElement",
+    "HTMLSelectElement",
+    "HTMLSlotElement",
+    "HTMLSourceElement",
+    "HTMLSpanElement",
+    "HTMLStyleElement",
+    "HTMLTableCaptionElement",
+    "HTMLTableCellElement",
+    "HTMLTableColElement",
+    "HTMLTableElement",
+    "HTMLTableRowElement",
+    "HTMLTableSectionElement",
+    "HTMLTemplateElement",
+    "HTMLTextAreaElement",
+    "HTMLTimeElement",
+    "HTMLTitleElement",
+    "HTMLTrackElement",
+    "HTMLUListElement",
+    "HTMLUnknownElement",
+    "HTMLVideoElement",
+    "HashChangeEvent",
+    "Headers",
+    "History",
+    "IDBCursor",
+    "IDBCursorWithValue",
+    "IDBDatabase",
+    "IDBFactory",
+    "IDBIndex",
+    "IDBKeyRange",
+    "IDBObjectStore",
+    "IDBOpenDBRequest",
+    "IDBRequest",
+    "IDBTransaction",
+    "IDBVersionChangeEvent",
+    "Image",
+    "ImageData",
+    "InputEvent",
+    "Int16Array",
+    "Int32Array",
+    "Int8Array",
+    "IntersectionObserver",
+    "IntersectionObserverEntry",
+    "Intl",
+    "JSON",
+    "KeyboardEvent",
+    "KeyframeEffect",
+    "Location",
+    "Map",
+    "Math",
+    "MediaCapabilities",
+    "MediaElementAudioSourceNode",
+    "MediaEncryptedEvent",
+    "MediaError",
+    "MediaList",
+    "MediaQueryList",
+    "MediaQueryListEvent",
+    "MediaRecorder",
+    "MediaSource",
+    "MediaStream",
+    "MediaStreamAudioDestinationNode",
+    "MediaStreamAudioSourceNode",
+    "MediaStreamTrack",
+    "MediaStreamTrackEvent",
+    "MessageChannel",
+    "MessageEvent",
+    "MessagePort",
+    "MimeType",
+    "MimeTypeArray",
+    "MouseEvent",
+    "MutationEvent",
+    "MutationObserver",
+    "MutationRecord",
+    "NamedNodeMap",
+    "Navigator",
+    "Node",
+    "NodeFilter",
+    "NodeIterator",
+    "NodeList",
+    "Notification",
+    "Number",
+    "Object",
+    "OfflineAudioCompletionEvent",
+    "Option",
+    "OscillatorNode",
+    "PageTransitionEvent",
+    "Path2D",
+    "Performance",
+    "PerformanceEntry",
+    "PerformanceMark",
+    "PerformanceMeasure",
+    "PerformanceNavigation",
+    "PerformanceObserver",
+    "PerformanceObserverEntryList",
+    "PerformanceResourceTiming",
+    "PerformanceTiming",
+    "PeriodicWave",
+    "Plugin",
+    "PluginArray",
+    "PointerEvent",
+    "PopStateEvent",
+    "ProcessingInstruction",
+    "ProgressEvent",
+    "Promise",
+    "PromiseRejectionEvent",
+    "Proxy",
+    "RTCCertificate",
+    "RTCDTMFSender",
+    "RTCDTMFToneChangeEvent",
+    "RTCDataChannel",
+    "RTCDataChannelEvent",
+    "RTCIceCandidate",
+    "RTCPeerConnection",
+    "RTCPeerConnectionIceEvent",
+    "RTCRtpReceiver",
+    "RTCRtpSender",
+    "RTCRtpTransceiver",
+    "RTCSessionDescription",
+    "RTCStatsReport",
+    "RTCTrackEvent",
+    "RadioNodeList",
+    "Range",
+    "RangeError",
+    "ReadableStream",
+    "ReferenceError",
+    "Reflect",
+    "RegExp",
+    "Request",
+    "ResizeObserver",
+    "ResizeObserverEntry",
+    "Response",
+];
+
+/// The names that begin with `S` to `X`.
+pub const S_TO_X: &[&str] = &[
+    "SVGAElement",
+    "SVGAngle",
+    "SVGAnimateElement",
+    "SVGAnimateMotionElement",
+    "SVGAnimateTransformElement",
+    "SVGAnimatedAngle",
+    "SVGAnimatedBoolean",
+    "SVGAnimatedEnumeration",
+    "SVGAnimatedInteger",
+    "SVGAnimatedLength",
+    "SVGAnimatedLengthList",
+    "SVGAnimatedNumber",
+    "SVGAnimatedNumberList",
+    "SVGAnimatedPreserveAspectRatio",
+    "SVGAnimatedRect",
+    "SVGAnimatedString",
+    "SVGAnimatedTransformList",
+    "SVGAnimationElement",
+    "SVGCircleElement",
+    "SVGClipPathElement",
+    "SVGComponentTransferFunctionElement",
+    "SVGDefsElement",
+    "SVGDescElement",
+    "SVGElement",
+    "SVGEllipseElement",
+    "SVGFEBlendElement",
+    "SVGFEColorMatrixElement",
+    "SVGFEComponentTransferElement",
+    "SVGFECompositeElement",
+    "SVGFEConvolveMatrixElement",
+    "SVGFEDiffuseLightingElement",
+    "SVGFEDisplacementMapElement",
+    "SVGFEDistantLightElement",
+    "SVGFEDropShadowElement",
+    "SVGFEFloodElement",
+    "SVGFEFuncAElement",
+    "SVGFEFuncBElement",
+    "SVGFEFuncGElement",
+    "SVGFEFuncRElement",
+    "SVGFEGaussianBlurElement",
+    "SVGFEImageElement",
+    "SVGFEMergeElement",
+    "SVGFEMergeNodeElement",
+    "SVGFEMorphologyElement",
+    "SVGFEOffsetElement",
+    "SVGFEPointLightElement",
+    "SVGFESpecularLightingElement",
+    "SVGFESpotLightElement",
+    "SVGFETileElement",
+    "SVGFETurbulenceElement",
+    "SVGFilterElement",
+    "SVGForeignObjectElement",
+    "SVGGElement",
+    "SVGGeometryElement",
+    "SVGGradientElement",
+    "SVGGraphicsElement",
+    "SVGImageElement",
+    "SVGLength",
+    "SVGLengthList",
+    "SVGLineElement",
+    "SVGLinearGradientElement",
+    "SVGMPathElement",
+    "SVGMarkerElement",
+    "SVGMaskElement",
+    "SVGMatrix",
+    "SVGMetadataElement",
+    "SVGNumber",
+    "SVGNumberList",
+    "SVGPathElement",
+    "SVGPatternElement",
+    "SVGPoint",
+    "SVGPointList",
+    "SVGPolygonElement",
+    "SVGPolylineElement",
+    "SVGPreserveAspectRatio",
+    "SVGRadialGradientElement",
+    "SVGRect",
+    "SVGRectElement",
+    "SVGSVGElement",
+    "SVGScriptElement",
+    "SVGSetElement",
+    "SVGStopElement",
+    "SVGStringList",
+    "SVGStyleElement",
+    "SVGSwitchElement",
+    "SVGSymbolElement",
+    "SVGTSpanElement",
+    "SVGTextContentElement",
+    "SVGTextElement",
+    "SVGTextPathElement",
+    "SVGTextPositioningElement",
+    "SVGTitleElement",
+    "SVGTransform",
+    "SVGTransformList",
+    "SVGUnitTypes",
+    "SVGUseElement",
+    "SVGViewElement",
+    "Screen",
+    "ScriptProcessorNode",
+    "SecurityPolicyViolationEvent",
+    "Selection",
+    "Set",
+    "ShadowRoot",
+    "SourceBuffer",
+    "SourceBufferList",
+    "SpeechSynthesisEvent",
+    "SpeechSynthesisUtterance",
+    "StaticRange",
+    "Storage",
+    "StorageEvent",
+    "String",
+    "StyleSheet",
+    "StyleSheetList",
+    "Symbol",
+    "SyntaxError",
+    "Text",
+    "TextDecoder",
+    "TextEncoder",
+    "TextMetrics",
+    "TextTrack",
+    "TextTrackCue",
+    "TextTrackCueList",
+    "TextTrackList",
+    "TimeRanges",
+    "TrackEvent",
+    "TransitionEvent",
+    "TreeWalker",
+    "TypeError",
+    "UIEvent",
+    "URIError",
+    "URL",
+    "URLSearchParams",
+    "Uint16Array",
+    "Uint32Array",
+    "Uint8Array",
+    "Uint8ClampedArray",
+    "VTTCue",
+    "ValidityState",
+    "VisualViewport",
+    "WaveShaperNode",
+    "WeakMap",
+    "WeakSet",
+    "WebAssembly",
+    "WebGLActiveInfo",
+    "WebGLBuffer",
+    "WebGLContextEvent",
+    "WebGLFramebuffer",
+    "WebGLProgram",
+    "WebGLQuery",
+    "WebGLRenderbuffer",
+    "WebGLRenderingContext",
+    "WebGLSampler",
+    "WebGLShader",
+    "WebGLShaderPrecisionFormat",
+    "WebGLSync",
+    "WebGLTexture",
+    "WebGLUniformLocation",
+    "WebKitCSSMatrix",
+    "WebSocket",
+    "WheelEvent",
+    "Window",
+    "Worker",
+    "XMLDocument",
+    "XMLHttpRequest",
+    "XMLHttpRequestEventTarget",
+    "XMLHttpRequestUpload",
+    "XMLSerializer",
+    "XPathEvaluator",
+    "XPathExpression",
+    "XPathResult",
+    "XSLTProcessor",
+];
+
+/// The names that begin with a small letter.
+pub const LOWERCASE: &[&str] = &[
+    "alert",
+    "atob",
+    "blur",
+    "btoa",
+    "cancelAnimationFrame",
+    "captureEvents",
+    "clearInterval",
+    "clearTimeout",
+    "close",
+    "closed",
+    "confirm",
+    "console",
+    "customElements",
+    "decodeURI",
+    "decodeURIComponent",
+    "devicePixelRatio",
+    "document",
+    "encodeURI",
+    "encodeURIComponent",
+    "escape",
+    "event",
+    "fetch",
+    "find",
+    "focus",
+    "frameElement",
+    "frames",
+    "getComputedStyle",
+    "getSelection",
+    "globalThis",
+    "history",
+    "indexedDB",
+    "isFinite",
+    "isNaN",
+    "isSecureContext",
+    "length",
+    "location",
+    "locationbar",
+    "matchMedia",
+    "menubar",
+    "moveBy",
+    "moveTo",
+    "name",
+    "navigator",
+    "onabort",
+    "onafterprint",
+    "onanimationend",
+    "onanimationiteration",
+    "onanimationstart",
+    "onbeforeprint",
+    "onbeforeunload",
+    "onblur",
+    "oncanplay",
+    "oncanplaythrough",
+    "onchange",
+    "onclick",
+    "oncontextmenu",
+    "oncuechange",
+    "ondblclick",
+    "ondrag",
+    "ondragend",
+    "ondragenter",
+    "ondragleave",
+    "ondragover",
+    "ondragstart",
+    "ondrop",
+    "ondurationchange",
+    "onemptied",
+    "onended",
+    "onerror",
+    "onfocus",
+    "ongotpointercapture",
+    "onhashchange",
+    "oninput",
+    "oninvalid",
+    "onkeydown",
+    "onkeypress",
+    "onkeyup",
+    "onlanguagechange",
+    "onload",
+    "onloadeddata",
+    "onloadedmetadata",
+    "onloadstart",
+    "onlostpointercapture",
+    "onmessage",
+    "onmousedown",
+    "onmouseenter",
+    "onmouseleave",
+    "onmousemove",
+    "onmouseout",
+    "onmouseover",
+    "onmouseup",
+    "onoffline",
+    "ononline",
+    "onpagehide",
+    "onpageshow",
+    "onpause",
+    "onplay",
+    "onplaying",
+    "onpointercancel",
+    "onpointerdown",
+    "onpointerenter",
+    "onpointerleave",
+    "onpointermove",
+    "onpointerout",
+    "onpointerover",
+    "onpointerup",
+    "onpopstate",
+    "onprogress",
+    "onratechange",
+    "onrejectionhandled",
+    "onreset",
+    "onresize",
+    "onscroll",
+    "onseeked",
+    "onseeking",
+    "onselect",
+    "onstalled",
+    "onstorage",
+    "onsubmit",
+    "onsuspend",
+    "ontimeupdate",
+    "ontoggle",
+    "ontransitioncancel",
+    "ontransitionend",
+    "ontransitionrun",
+    "ontransitionstart",
+    "onunhandledrejection",
+    "onunload",
+    "onvolumechange",
+    "onwaiting",
+    "onwebkitanimationend",
+    "onwebkitanimationiteration",
+    "onwebkitanimationstart",
+    "onwebkittransitionend",
+    "onwheel",
+    "open",
+    "opener",
+    "origin",
+    "outerHeight",
+    "outerWidth",
+    "parent",
+    "parseFloat",
+    "parseInt",
+    "performance",
+    "personalbar",
+    "postMessage",
+    "print",
+    "prompt",
+    "queueMicrotask",
+    "releaseEvents",
+    "requestAnimationFrame",
+    "resizeBy",
+    "resizeTo",
+    "screen",
+    "screenLeft",
+    "screenTop",
+    "screenX",
+    "screenY",
+    "scroll",
+    "scrollBy",
+    "scrollTo",
+    "scrollbars",
+    "self",
+    "setInterval",
+    "setTimeout",
+    "speechSynthesis",
+    "status",
+    "statusbar",
+    "stop",
+    "toolbar",
+    "top",
+    "unescape",
+    "webkitURL",
+    "window",
+];

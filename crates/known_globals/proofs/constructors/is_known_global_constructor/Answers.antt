@@ -3,4 +3,4 @@ use Rattle.known_globals.proofs.constructors.is_known_global_constructor.Goals a
 
 pub returns : goal.returns
 unfolding known_constructors
-returns c = c.among.ensures
+returns c = c.contains.ensures.value

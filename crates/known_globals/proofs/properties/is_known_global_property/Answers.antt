@@ -5,41 +5,41 @@ use Rattle.known_globals.proofs.Members.{in_first, in_second}
 use Rattle.known_globals.proofs.Rows.{under_none}
 use Rattle.known_globals.proofs.properties.is_known_global_property.Goals as goal
 
-pub returns-then-among : goal.returns-then-among
+pub returns-then-contains : goal.returns-then-contains
 unfolding known_properties math_constants
-returns-then-among c =
-    in_first (map codes math_constants) (map codes pure_math_methods) c.args.property.now c.among.result c.among.ensures c.if-among.true
+returns-then-contains c =
+    in_first (map codes math_constants) (map codes pure_math_methods) c.args.property.now c.contains.result c.contains.ensures.value c.if-contains.true
     ∙ sym (ap (λ g. known_property g c.args.property.now) c.in-Math.is)
 
-pub returns-else-among : goal.returns-else-among
+pub returns-else-contains : goal.returns-else-contains
 unfolding known_properties math_constants
-returns-else-among c =
-    in_second (map codes math_constants) (map codes pure_math_methods) c.args.property.now c.among.result c.is_pure_math_method.result c.among.ensures c.if-among.false c.is_pure_math_method.ensures
+returns-else-contains c =
+    in_second (map codes math_constants) (map codes pure_math_methods) c.args.property.now c.contains.result c.is_pure_math_method.result c.contains.ensures.value c.if-contains.false c.is_pure_math_method.ensures
     ∙ sym (ap (λ g. known_property g c.args.property.now) c.in-Math.is)
 
 pub returns-in-Number : goal.returns-in-Number
 unfolding known_properties
-returns-in-Number c = c.among-in-Number.ensures ∙ sym (ap (λ g. known_property g c.args.property.now) c.in-Number.is)
+returns-in-Number c = c.contains-in-Number.ensures.value ∙ sym (ap (λ g. known_property g c.args.property.now) c.in-Number.is)
 
 pub returns-in-console : goal.returns-in-console
 unfolding known_properties
-returns-in-console c = c.among-in-console.ensures ∙ sym (ap (λ g. known_property g c.args.property.now) c.in-console.is)
+returns-in-console c = c.contains-in-console.ensures.value ∙ sym (ap (λ g. known_property g c.args.property.now) c.in-console.is)
 
 pub returns-in-Object : goal.returns-in-Object
 unfolding known_properties
-returns-in-Object c = c.among-in-Object.ensures ∙ sym (ap (λ g. known_property g c.args.property.now) c.in-Object.is)
+returns-in-Object c = c.contains-in-Object.ensures.value ∙ sym (ap (λ g. known_property g c.args.property.now) c.in-Object.is)
 
 pub returns-in-Reflect : goal.returns-in-Reflect
 unfolding known_properties
-returns-in-Reflect c = c.among-in-Reflect.ensures ∙ sym (ap (λ g. known_property g c.args.property.now) c.in-Reflect.is)
+returns-in-Reflect c = c.contains-in-Reflect.ensures.value ∙ sym (ap (λ g. known_property g c.args.property.now) c.in-Reflect.is)
 
 pub returns-in-Symbol : goal.returns-in-Symbol
 unfolding known_properties
-returns-in-Symbol c = c.among-in-Symbol.ensures ∙ sym (ap (λ g. known_property g c.args.property.now) c.in-Symbol.is)
+returns-in-Symbol c = c.contains-in-Symbol.ensures.value ∙ sym (ap (λ g. known_property g c.args.property.now) c.in-Symbol.is)
 
 pub returns-in-JSON : goal.returns-in-JSON
 unfolding known_properties
-returns-in-JSON c = c.among-in-JSON.ensures ∙ sym (ap (λ g. known_property g c.args.property.now) c.in-JSON.is)
+returns-in-JSON c = c.contains-in-JSON.ensures.value ∙ sym (ap (λ g. known_property g c.args.property.now) c.in-JSON.is)
 
 pub returns-in_default : goal.returns-in_default
 unfolding known_properties

@@ -13,7 +13,7 @@ returns-then-eq-2 c =
           let both : w.eq-then-eq.result ≡ true = cc in
           let g = affirmed c.args.global.now (codes "Object") _ c.eq.ensures w.if-eq.true in
           let m = affirmed c.args.middle.now (codes "prototype") _ w.eq-then-eq.ensures both in
-          c.among.ensures ∙ sym (λ i. known_property_deep (g i) (m i) c.args.property.now)
+          c.contains.ensures.value ∙ sym (λ i. known_property_deep (g i) (m i) c.args.property.now)
       | else-eq w ↦ let never : true ≡ false = cc in absurd (true≢false never)
     ]
 

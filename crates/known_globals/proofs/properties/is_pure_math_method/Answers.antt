@@ -3,4 +3,4 @@ use Rattle.known_globals.proofs.properties.is_pure_math_method.Goals as goal
 
 pub returns : goal.returns
 unfolding pure_math_methods
-returns c = c.among.ensures
+returns c = c.contains.ensures.value

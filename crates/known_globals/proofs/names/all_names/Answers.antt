@@ -1,7 +1,0 @@
-use Rattle.std.proofs.Common.{refl}
-use Rattle.known_globals.specs.Identifiers.{known_names}
-use Rattle.known_globals.proofs.names.all_names.Goals as goal
-
-pub returns : goal.returns
-unfolding known_names
-returns c = refl
