@@ -1,22 +1,13 @@
 -- Scope records and their keys.
-use Rattle.std.proofs.Common.{◌≡◌, ℕ, zero, suc, ◌-◌, ◌<◌, Bool, true, false, cond, ◌&&◌, eqb, ltb, List, [], ◌∷◌, ◌++◌, length, get_or, Some, None, Option, Ordering, Less, Equal, Greater, sym, refl, ap, ◌∙◌, le_of_suc-le-suc, not-suc-le-zero, arith}
-use Rattle.std.specs.Option.{option_map}
+use Rattle.std.proofs.Common.{◌≡◌, ℕ, suc, ◌-◌, ◌<◌, Bool, true, false, cond, ◌&&◌, eqb, ltb, List, [], ◌∷◌, ◌++◌, length, get_or, is_some, Some, None, Option, Bor, IfSome, Ordering, Less, Equal, Greater, sym, refl, ap, ◌∙◌, not-suc-le-zero, arith}
+use Rattle.std.specs.Option.{option_map, MatchOption}
 use Rattle.std.specs.Ordering.{is_lt, ordering_then, nat_cmp}
 use Rattle.std.specs.Str.{bytes_eq}
-use Rattle.std.proofs.lemmas.Bool.{and_parts, and_from}
+use Rattle.std.proofs.lemmas.Bool.{and_parts, and_from, ltb-true, ltb-false}
 use Rattle.packed.specs.declared.field.Scope.{Scope}
 use Rattle.tables.specs.Order.{order, position, above, ascends}
 use Rattle.hosts.specs.Scopes.{scope_keys, lookup, highest}
 use Rattle.tables.proofs.Ascent.{some_none}
-
-pub length_keys : (rs : List Scope) → length (scope_keys rs) ≡ length rs
-length_keys [] = refl
-length_keys (r ∷ rs) = ap suc (length_keys rs)
-
-pub key_at : (rs : List Scope) (i : ℕ) (x : Scope) → i < length rs → x ≡ get_or rs i x → get_or (scope_keys rs) i [] ≡ (x.reference ∷ [])
-key_at [] i x l e = absurd (not-suc-le-zero l)
-key_at (r ∷ rs) zero x l e = ap (λ (y : Scope). y.reference ∷ []) (sym e)
-key_at (r ∷ rs) (suc i) x l e = key_at rs i x (le_of_suc-le-suc l) e
 
 then_equal : (o : Ordering) → ordering_then o Equal ≡ o
 then_equal Less = refl
@@ -61,16 +52,21 @@ lookup_none (r ∷ rs) n e =
     rw (← same_number r.reference n)
     (none_step r (bytes_eq (r.reference ∷ []) (n ∷ [])) (position (scope_keys rs) (n ∷ [])) (lookup rs n) e (lookup_none rs n))
 
-pub highest_none : (rs : List Scope) → length rs ≡ 0 → 0 ≡ highest rs
+highest_none : (rs : List Scope) → length rs ≡ 0 → 0 ≡ highest rs
 highest_none [] e = refl
 highest_none (r ∷ rs) e = absurd (let z : suc (length rs) ≡ 0 = e in omega arith)
 
-pub highest_at : (rs : List Scope) (x : Scope) → 0 < length rs → x ≡ get_or rs (length rs - 1) x → x.reference ≡ highest rs
+highest_at : (rs : List Scope) (x : Scope) → 0 < length rs → x ≡ get_or rs (length rs - 1) x → x.reference ≡ highest rs
 highest_at [] x l e = absurd (not-suc-le-zero l)
 highest_at (r ∷ []) x l e = ap (λ (y : Scope). y.reference) e
 highest_at (r ∷ (y ∷ ys)) x l e =
     let more : suc (suc (length ys)) - 1 ≡ suc (suc (length ys) - 1) = omega arith in
     highest_at (y ∷ ys) x (omega arith) (e ∙ ap (λ j. get_or (r ∷ (y ∷ ys)) j x) more)
+
+-- the number of the last record, as `last` and `map_or` have it
+pub highest_last : (rs : List Scope) (last : Option (Bor Scope)) (n : ℕ) → is_some last ≡ ltb 0 (length rs) → IfSome last (λ x. x.now ≡ get_or rs (length rs - 1) x.now) → MatchOption last (n ≡ 0) (λ x. n ≡ x.now.reference) → n ≡ highest rs
+highest_last rs None n s at h = h ∙ highest_none rs (omega (arith, ltb-false 0 (length rs) (sym s)))
+highest_last rs (Some x) n s at h = h ∙ highest_at rs x.now (ltb-true 0 (length rs) (sym s)) at
 
 below_key : (a b : ℕ) → ltb a b ≡ true → is_lt (order (a ∷ []) (b ∷ [])) ≡ true
 below_key a b h = ap is_lt (order_numbers a b) ∙ rw h

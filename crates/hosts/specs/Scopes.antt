@@ -1,13 +1,12 @@
 -- Scope records in ascending order of their reference numbers.
-use Rattle.std.specs.Prelude.{ℕ, cond, List, [], ◌∷◌, ◌++◌, length, Some, None, Ok, Err, Option, Result, ◌==◌, nat_lt}
+use Rattle.std.specs.Prelude.{ℕ, cond, List, [], ◌∷◌, ◌++◌, map, length, Some, None, Ok, Err, Option, Result, ◌==◌, nat_lt}
 use Rattle.packed.specs.declared.field.Scope.{Scope}
 use Rattle.packed.specs.declared.refusal.Reason.{Reason}
 use Rattle.packed.specs.declared.refusal.Reason.TheVariants.{BadScope, Full}
 
 -- the records' keys, each its number alone
 abbrev pub scope_keys : List Scope → List (List ℕ)
-scope_keys [] = []
-scope_keys (x ∷ xs) = (x.reference ∷ []) ∷ scope_keys xs
+scope_keys xs = map (λ x. x.reference ∷ []) xs
 
 -- the record of the number n
 abbrev pub lookup : List Scope → ℕ → Option Scope

@@ -16,20 +16,24 @@ pub struct ScopeTable {
 }
 
 impl Ascending for ScopeTable {
+    type Entry = Scope;
+
+    ghost key = { λ s. s.reference ∷ [] };
+
     ghost keys = { λ t. scope_keys t.records.items };
 
     ghost ascent = { λ t. t.ascent };
 
-    fn len(&self) -> usize {
-        self.records.len()
+    fn entries(&self) -> &[Scope] {
+        &self.records
     }
 }
 
 impl OrderedTable<u16> for ScopeTable {
     ghost sought = { λ n. n ∷ [] };
 
-    fn compare(&self, i: usize, key: u16) -> Ordering {
-        self.records[i].reference.cmp(&key)
+    fn compare(entry: &Scope, key: u16) -> Ordering {
+        entry.reference.cmp(&key)
     }
 }
 
@@ -55,10 +59,7 @@ impl ScopeTable {
     fn top(&self) -> u16
         ensures { result ≡ highest self.now.records.items }
     {
-        match self.records.last() {
-            Some(scope) => scope.reference,
-            None => 0,
-        }
+        self.records.last().map_or(0, |scope| scope.reference)
     }
 
     /// Appends a record whose number is above the others, if there is room.
@@ -80,9 +81,7 @@ impl ScopeTable {
     pub(crate) fn get(&self, reference: u16) -> Option<Scope>
         ensures { result ≡ lookup self.now.records.items reference }
     {
-        match find(self, reference) {
-            Some(i) => Some(self.records[i]),
-            None => None,
-        }
+        let i = find(self, reference)?;
+        Some(self.records[i])
     }
 }
