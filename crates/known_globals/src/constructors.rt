@@ -49,6 +49,7 @@ const CONSTRUCTORS: &[&str] = &[
 ];
 
 /// Whether the name is that of a known global constructor, whether or not the target has it.
+#[tactic(auto, unfolding(crate::specs::Constructors::known_constructors))]
 pub fn is_known_global_constructor(name: &str) -> bool
     ensures { result ≡ listed known_constructors name.now }
 {

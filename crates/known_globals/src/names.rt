@@ -39,6 +39,7 @@ impl<'a> OrderedTable<&'a str> for Names {
 
 impl Names {
     /// Whether the name is one of these.
+    #[tactic(auto, using(tables::proofs::Listed::position_listed))]
     pub fn has(&self, name: &str) -> bool
         ensures { result ≡ listed (map (λ n. n.now) self.now.names.now) name.now }
     {

@@ -134,6 +134,7 @@ const MATH_METHODS: &[&str] = &[
 ];
 
 /// Whether the property of the global object is read without side effects, as `Math.PI`, `console.log` and `Object.keys` are.
+#[tactic(auto, unfolding(crate::specs::Properties::known_properties, crate::specs::Properties::math_constants))]
 pub fn is_known_global_property(global: &str, property: &str) -> bool
     ensures { result ≡ known_property global.now property.now }
 {
@@ -150,6 +151,7 @@ pub fn is_known_global_property(global: &str, property: &str) -> bool
 }
 
 /// Whether the property two steps below the global object is read without side effects, as `Object.prototype.hasOwnProperty` is.
+#[tactic(auto, unfolding(crate::specs::Properties::known_properties_deep, crate::specs::Properties::object_prototype))]
 pub fn is_known_global_property_deep(global: &str, middle: &str, property: &str) -> bool
     ensures { result ≡ known_property_deep global.now middle.now property.now }
 {
@@ -157,6 +159,7 @@ pub fn is_known_global_property_deep(global: &str, middle: &str, property: &str)
 }
 
 /// Whether the method of `Math` has no side effects.
+#[tactic(auto, unfolding(crate::specs::Properties::pure_math_methods))]
 fn is_pure_math_method(method: &str) -> bool
     ensures { result ≡ listed (map codes pure_math_methods) method.now }
 {

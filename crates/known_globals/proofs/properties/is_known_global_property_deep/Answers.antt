@@ -1,21 +1,9 @@
-use Rattle.std.proofs.Common.{◌≡◌, true, false, codes, [], ◌∷◌, sym, ap, ◌∙◌, true≢false}
+use Rattle.std.proofs.Common.{◌≡◌, false, codes, [], ◌∷◌, ap, ◌∙◌}
 use Rattle.tables.specs.Order.{listed}
 use Rattle.known_globals.specs.Properties.{row, under, object_prototype, known_properties_deep, known_property_deep}
 use Rattle.known_globals.proofs.Rows.{under_none, refuted, affirmed}
 use Rattle.known_globals.proofs.properties.is_known_global_property_deep.Goals as goal
 use Rattle.known_globals.proofs.properties.is_known_global_property_deep.Goals.{then-eq, else-eq}
-
-pub returns-then-eq-2 : goal.returns-then-eq-2
-unfolding known_properties_deep object_prototype
-returns-then-eq-2 c =
-    elim c.if-eq.branch [
-      | then-eq w ↦
-          let both : w.eq-then-eq.result ≡ true = cc in
-          let g = affirmed c.args.global.now (codes "Object") _ c.eq.ensures w.if-eq.true in
-          let m = affirmed c.args.middle.now (codes "prototype") _ w.eq-then-eq.ensures both in
-          c.contains.ensures.value ∙ sym (λ i. known_property_deep (g i) (m i) c.args.property.now)
-      | else-eq w ↦ let never : true ≡ false = cc in absurd (true≢false never)
-    ]
 
 pub returns-else-eq-2 : goal.returns-else-eq-2
 unfolding known_properties_deep
