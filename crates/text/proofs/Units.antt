@@ -13,6 +13,8 @@ use Rattle.std.proofs.lemmas.Bool.Decides.{nat_tests}
 use Rattle.text.specs.CodeUnits.{encoded, code_units, leading, trailing, steps}
 
 -- how many code units a code point has
+abbrev pub units : ℕ → ℕ
+units c = length (encoded c)
 
 one_unit : (c : ℕ) → c < 65536 → encoded c ≡ c ∷ []
 one_unit c h = rw (le-leb c 0xFFFF (omega arith))
@@ -23,13 +25,11 @@ two_units c h = rw (lt-leb c 0xFFFF (omega arith))
 either : (c : ℕ) → (c < 65536) ⊎ (65536 ≤ c)
 either c = grind (arith, nat_tests)
 
-pub units_are : (c n : ℕ) → (c < 65536 → n ≡ 1) → (65536 ≤ c → n ≡ 2) → n ≡ length (encoded c)
-units_are c n one two =
-    ⊎_elim (λ (h : c < 65536). one h ∙ sym (ap length (one_unit c h))) (λ (h : 65536 ≤ c). two h ∙ sym (ap length (two_units c h))) (either c)
+pub units_are : (c n : ℕ) → (c < 65536 → n ≡ 1) → (65536 ≤ c → n ≡ 2) → n ≡ units c
+units_are c n one two = grind (arith, nat_tests)
 
-units_width : (c : ℕ) → length (encoded c) ≤ len_utf8 c
-units_width c =
-    ⊎_elim (λ (h : c < 65536). let e = ap length (one_unit c h) in grind (arith, nat_tests)) (λ (h : 65536 ≤ c). let e = ap length (two_units c h) in grind (arith, nat_tests)) (either c)
+units_width : (c : ℕ) → units c ≤ len_utf8 c
+units_width c = grind (arith, nat_tests)
 
 units_encodes : (cs : List ℕ) → length (code_units cs) ≤ length (encodes cs)
 units_encodes [] = omega arith
@@ -41,9 +41,9 @@ pub units_bytes : (bs : List ℕ) → IsUtf8 bs → length (code_units (chars bs
 units_bytes bs u = omega (arith, units_encodes (chars bs), ap length (encodes-chars bs u))
 
 -- a text has as many code units as its characters have together
-pub sum_units : (cs : List ℕ) → sum_by (λ c. length (encoded c)) cs ≡ length (code_units cs)
+pub sum_units : (cs : List ℕ) → sum_by units cs ≡ length (code_units cs)
 sum_units [] = refl
-sum_units (c ∷ cs) = sum_by-cons (λ c. length (encoded c)) c cs ∙ ap (λ n. length (encoded c) + n) (sum_units cs) ∙ sym (length-append (encoded c) (code_units cs))
+sum_units (c ∷ cs) = sum_by-cons units c cs ∙ ap (λ n. units c + n) (sum_units cs) ∙ sym (length-append (encoded c) (code_units cs))
 
 -- an iteration takes one step for each scalar value
 

@@ -1,6 +1,6 @@
 //! Integer indices: whole numbers from 0 to 4,294,967,295.
 
-ghost use Rattle.std.specs.Prelude.{◌≡◌, not, T, ◌==◌, is_nan, slice_index};
+ghost use Rattle.std.specs.Prelude.{◌≡◌, not, T, is_nan};
 ghost use Rattle.text.specs.Indices.{float_index, number_index, digits_index};
 
 use crate::number::number_literal;
