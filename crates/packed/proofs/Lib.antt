@@ -2,3 +2,4 @@ pub mod Parts
 pub mod Layouts
 pub mod Steps
 pub mod NodesRead
+pub mod Listings

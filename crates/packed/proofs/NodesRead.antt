@@ -1,5 +1,5 @@
 -- What stands at the place of a node that is read.
-use Rattle.std.proofs.Common.{◌≡◌, ℕ, ◌≤◌, Bool, true, false, cond, ◌&&◌, eqb, ltb, leb, List, length, get_or, Some, None, Ok, Err, Option, Result, sym, refl, ap, ◌∙◌, arith, ltb-false, leb-true}
+use Rattle.std.proofs.Common.{◌≡◌, ℕ, ◌<◌, ◌≤◌, Bool, true, false, cond, ◌&&◌, eqb, ltb, leb, List, length, get_or, Some, None, Ok, Err, Option, Result, sym, refl, ap, ◌∙◌, arith, ltb-false, leb-true}
 use Rattle.packed.specs.declared.field.Scope.{Scope}
 use Rattle.packed.specs.declared.switch.Switch.{Switch}
 use Rattle.packed.specs.Switches.{switch_of}
@@ -26,6 +26,12 @@ field_there file p a r =
       is = sym (ap (λ (u : Told × ℕ). u.0) here);
       next = sym (ap (λ (u : Told × ℕ). u.1) here);
     }
+
+-- a field that was read ends behind its begin, within the file
+pub forward : (file : List ℕ) (p : ℕ) (t : Told) (next : ℕ) → Ok (t, next) ≡ read_at file p → (p < next) × (next ≤ length file)
+forward file p t next e =
+    let f = field_there file p (t, next) (sym e) in
+    (omega (arith, f.next), omega (arith, f.next, f.whole))
 
 pub record NodeThere (file : List ℕ) (p : ℕ) (t : Told × ℕ) : Type 0 where
   pub small : length file ≤ 65535

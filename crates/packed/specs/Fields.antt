@@ -2,11 +2,13 @@
 use Rattle.std.specs.Prelude.{ℕ, ◌+◌, ◌*◌, Bool, true, false, cond, ◌&&◌, List, length, take, drop, Some, None, Option, ◌==◌, nat_le, slice_index}
 use Rattle.packed.specs.declared.node.RawNode.{RawNode}
 use Rattle.packed.specs.declared.switch.Switch as switches
+use Rattle.packed.specs.declared.tag.Tag as tags
 use Rattle.packed.specs.declared.field.Scope as scopes
 use Rattle.packed.specs.declared.field.Field.{Field}
 use Rattle.packed.specs.declared.field.Field.TheVariants.{Node, Scope, Switch, Name, Other}
 use Rattle.packed.specs.ValueTypes.{type_of}
 use Rattle.packed.specs.Switches.{switch_of}
+use Rattle.packed.specs.Tags.{tag_of}
 
 -- a field by its values, with the bytes of each text in the place of a reference
 pub data Told : Type 0 where
@@ -33,6 +35,14 @@ has_node_tag (scope s) = false
 has_node_tag (switch s) = false
 has_node_tag (name text) = false
 has_node_tag (other tag payload) = tag == 1
+
+-- the tag, if it is a known one, whatever the payload
+abbrev pub tag_named : Told → Option tags.Tag
+tag_named (node kind detail count reference text) = Some tags.TheVariants.Node
+tag_named (scope s) = Some tags.TheVariants.Scope
+tag_named (switch s) = Some tags.TheVariants.Switch
+tag_named (name text) = Some tags.TheVariants.Name
+tag_named (other tag payload) = tag_of tag
 
 -- two bytes, the high one first
 abbrev pub word_at : List ℕ → ℕ → ℕ

@@ -1,13 +1,14 @@
 //! One field of a file.
 
 ghost use Rattle.std.specs.Prelude.{◌≡◌, ◌+◌, ◌≤◌, length, nat_le};
-ghost use Rattle.packed.specs.Fields.{told, has_node_tag, field_of, field_at, word_at, next_at};
+ghost use Rattle.packed.specs.Fields.{told, has_node_tag, tag_named, field_of, field_at, word_at, next_at};
 ghost use Rattle.packed.specs.Layout.{Reads};
 ghost use Rattle.packed.specs.Reading.{said, read_at};
 
 use super::node::RawNode;
 use super::refusal::{Reason, Refusal};
 use super::switch::Switch;
+use super::tag::Tag;
 use super::value_type::ValueType;
 
 /// The longest file that is read, in bytes.
@@ -35,11 +36,24 @@ pub enum Field<'a> {
 }
 
 impl Field<'_> {
+    /// The tag, if it is a known one, whatever the payload.
+    pub fn tag(self) -> Option<Tag>
+        ensures { result ≡ tag_named (told self.entry) }
+    {
+        match self {
+            Field::Node(_) => Some(Tag::Node),
+            Field::Scope(_) => Some(Tag::Scope),
+            Field::Switch(_) => Some(Tag::Switch),
+            Field::Name(_) => Some(Tag::Name),
+            Field::Other { tag, .. } => Tag::try_from(tag).ok(),
+        }
+    }
+
     /// Whether the tag is that of a node, whatever the payload.
     pub fn has_node_tag(self) -> bool
         ensures { result ≡ has_node_tag (told self.entry) }
     {
-        matches!(self, Field::Node(_) | Field::Other { tag: 1, .. })
+        self.tag() == Some(Tag::Node)
     }
 }
 
@@ -47,24 +61,24 @@ impl Field<'_> {
 fn field_of(tag: u8, payload: &[u8]) -> Field<'_>
     ensures { told result ≡ field_of tag payload.now }
 {
-    match (tag, payload) {
-        (1, [kind, detail, c1, c0, r1, r0, text @ ..]) => Field::Node(RawNode {
+    match (Tag::try_from(tag), payload) {
+        (Ok(Tag::Node), [kind, detail, c1, c0, r1, r0, text @ ..]) => Field::Node(RawNode {
             kind: *kind,
             detail: *detail,
             count: u16::from_be_bytes([*c1, *c0]),
             reference: u16::from_be_bytes([*r1, *r0]),
             text,
         }),
-        (2, [r1, r0, outer @ 0..=1, number @ 0..=8]) => Field::Scope(Scope {
+        (Ok(Tag::Scope), [r1, r0, outer @ 0..=1, number @ 0..=8]) => Field::Scope(Scope {
             reference: u16::from_be_bytes([*r1, *r0]),
             outer: *outer == 1,
-            value_type: ValueType::of_number(*number),
+            value_type: ValueType::try_from(*number).ok(),
         }),
-        (3, [number]) => match Switch::of_number(*number) {
-            Some(switch) => Field::Switch(switch),
-            None => Field::Other { tag, payload },
+        (Ok(Tag::Switch), [number]) => match Switch::try_from(*number) {
+            Ok(switch) => Field::Switch(switch),
+            Err(_) => Field::Other { tag, payload },
         },
-        (4, _) => Field::Name(payload),
+        (Ok(Tag::Name), _) => Field::Name(payload),
         _ => Field::Other { tag, payload },
     }
 }
@@ -97,10 +111,10 @@ fn take_field(file: &[u8], place: usize) -> (Field<'_>, usize)
     (field_of(file[place], &file[from..next]), next)
 }
 
-/// `read_field`, without the law.
-#[inline(always)]
-pub(crate) fn field_at(file: &[u8], place: usize) -> Result<(Field<'_>, usize), Refusal>
-    ensures { said result ≡ read_at file.now place }
+/// The field at `place` and the place of the next; or the refusal of a file that is too long, or of a field that is cut.
+pub fn read_field(file: &[u8], place: usize) -> Result<(Field<'_>, usize), Refusal>
+    ensures answer { said result ≡ read_at file.now place }
+    ensures held { Reads file.now place (said result) }
 {
     if file.len() > MAX_FILE {
         return Err(Refusal {
@@ -115,12 +129,4 @@ pub(crate) fn field_at(file: &[u8], place: usize) -> Result<(Field<'_>, usize), 
         });
     }
     Ok(take_field(file, place))
-}
-
-/// The field at `place` and the place of the next; or the refusal of a file that is too long, or of a field that is cut.
-pub fn read_field(file: &[u8], place: usize) -> Result<(Field<'_>, usize), Refusal>
-    ensures answer { said result ≡ read_at file.now place }
-    ensures held { Reads file.now place (said result) }
-{
-    field_at(file, place)
 }

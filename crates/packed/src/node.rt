@@ -3,7 +3,7 @@
 ghost use Rattle.std.specs.Prelude.{◌≡◌};
 ghost use Rattle.packed.specs.Reading.{said_node, node_at};
 
-use super::field::{Field, field_at};
+use super::field::{Field, read_field};
 use super::refusal::{Reason, Refusal};
 
 /// A node as the file has it; its text is a part of the file.
@@ -22,10 +22,10 @@ pub struct RawNode<'a> {
 pub fn node_at(file: &[u8], place: usize) -> Result<(RawNode<'_>, usize), Refusal>
     ensures { said_node result ≡ node_at file.now place }
 {
-    let (field, next) = field_at(file, place)?;
+    let (field, next) = read_field(file, place)?;
     match field {
         Field::Node(node) => Ok((node, next)),
-        Field::Other { tag: 1, .. } => Err(Refusal {
+        field if field.has_node_tag() => Err(Refusal {
             reason: Reason::BadHeader,
             place,
         }),

@@ -9,25 +9,25 @@ use std::fmt;
 #[derive(Clone, Copy, Debug, PartialEq, Eq)]
 pub enum Reason {
     /// The field does not end within the file, or begins past its end.
-    CutField,
+    CutField = 1,
     /// The field's tag is not one that may stand here.
-    WrongTag,
+    WrongTag = 2,
     /// A node's payload of fewer than six bytes, an unknown kind or detail, or a reference on another kind than an identifier.
-    BadHeader,
+    BadHeader = 3,
     /// A declaration that only TypeScript has.
-    TypeScriptOnly,
+    TypeScriptOnly = 4,
     /// A text that the kind does not allow.
-    BadText,
+    BadText = 5,
     /// Too few waiting nodes, or children that the kind does not allow.
-    BadChildren,
+    BadChildren = 6,
     /// A file of more than 65,535 bytes, or no room for another node or scope record.
-    Full,
+    Full = 7,
     /// A node table that accepted adds from this file do not leave.
-    ForeignTable,
+    ForeignTable = 8,
     /// A number that is no switch's.
-    BadSwitch,
+    BadSwitch = 11,
     /// A scope record of reference 0, of another shape, or not above the one before it.
-    BadScope,
+    BadScope = 13,
 }
 
 impl Reason {
@@ -35,18 +35,7 @@ impl Reason {
     pub fn number(self) -> u8
         ensures { result ≡ number_of self }
     {
-        match self {
-            Reason::CutField => 1,
-            Reason::WrongTag => 2,
-            Reason::BadHeader => 3,
-            Reason::TypeScriptOnly => 4,
-            Reason::BadText => 5,
-            Reason::BadChildren => 6,
-            Reason::Full => 7,
-            Reason::ForeignTable => 8,
-            Reason::BadSwitch => 11,
-            Reason::BadScope => 13,
-        }
+        self as u8
     }
 }
 

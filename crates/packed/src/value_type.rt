@@ -1,36 +1,41 @@
 //! The types of values that a scope record can name.
 
 ghost use Rattle.std.specs.Prelude.{◌≡◌};
+ghost use Rattle.std.specs.Option.{ok_or};
+ghost use Rattle.packed.specs.declared.refusal.Reason.TheVariants.{BadScope};
 ghost use Rattle.packed.specs.ValueTypes.{type_of};
 
+use super::refusal::Reason;
+
 /// The type of an expression's value, as far as it is known.
-#[derive(Clone, Copy)]
+#[derive(Clone, Copy, Debug, PartialEq, Eq)]
 pub enum ValueType {
-    Undefined,
-    Null,
-    Number,
-    BigInt,
-    String,
-    Boolean,
-    Object,
-    Undetermined,
+    Undefined = 1,
+    Null = 2,
+    Number = 3,
+    BigInt = 4,
+    String = 5,
+    Boolean = 6,
+    Object = 7,
+    Undetermined = 8,
 }
 
-impl ValueType {
-    /// The type of this number in the format, from 1 on.
-    pub(crate) fn of_number(number: u8) -> Option<ValueType>
-        ensures { result ≡ type_of number }
-    {
+impl TryFrom<u8> for ValueType {
+    type Error = Reason;
+
+    ghost try_from_gives = { λ n r. r ≡ ok_or (type_of n) BadScope };
+
+    fn try_from(number: u8) -> Result<ValueType, Reason> {
         match number {
-            1 => Some(ValueType::Undefined),
-            2 => Some(ValueType::Null),
-            3 => Some(ValueType::Number),
-            4 => Some(ValueType::BigInt),
-            5 => Some(ValueType::String),
-            6 => Some(ValueType::Boolean),
-            7 => Some(ValueType::Object),
-            8 => Some(ValueType::Undetermined),
-            _ => None,
+            1 => Ok(ValueType::Undefined),
+            2 => Ok(ValueType::Null),
+            3 => Ok(ValueType::Number),
+            4 => Ok(ValueType::BigInt),
+            5 => Ok(ValueType::String),
+            6 => Ok(ValueType::Boolean),
+            7 => Ok(ValueType::Object),
+            8 => Ok(ValueType::Undetermined),
+            _ => Err(Reason::BadScope),
         }
     }
 }
