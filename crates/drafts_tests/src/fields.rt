@@ -1,32 +1,18 @@
 //! `read_field`.
 
 use super::samples::{HOOK, next_place, told};
-use packed::{Field, Switch, ValueType, read_field};
+use packed::{Field, read_field};
 use std::test::Fail;
 
 /// A name `ab` at 0, a node at 5 and a switch at 16.
 const THREE: &[u8; 20] = b"\x04\x00\x02ab\x01\x00\x08\x01\x02\x03\x04\x05\x06hi\x03\x00\x01\x02";
 
-/// The number of a type in the format, 0 for none.
-fn type_number(value_type: Option<ValueType>) -> u8 {
-    match value_type {
-        None => 0,
-        Some(ValueType::Undefined) => 1,
-        Some(ValueType::Null) => 2,
-        Some(ValueType::Number) => 3,
-        Some(ValueType::BigInt) => 4,
-        Some(ValueType::String) => 5,
-        Some(ValueType::Boolean) => 6,
-        Some(ValueType::Object) => 7,
-        Some(ValueType::Undetermined) => 8,
-    }
-}
-
 /// Reference, outer and type of the scope record that the file begins with.
 fn scope_of(file: &[u8]) -> Option<(u16, bool, u8)> {
     match read_field(file, 0) {
         Ok((Field::Scope(scope), _)) => {
-            Some((scope.reference, scope.outer, type_number(scope.value_type)))
+            let number = scope.value_type.map_or(0, |value_type| value_type as u8);
+            Some((scope.reference, scope.outer, number))
         }
         _ => None,
     }
@@ -35,9 +21,7 @@ fn scope_of(file: &[u8]) -> Option<(u16, bool, u8)> {
 /// The number of the switch at `place`.
 fn switch_at(file: &[u8], place: usize) -> Option<u8> {
     match read_field(file, place) {
-        Ok((Field::Switch(Switch::PropertyReads), _)) => Some(1),
-        Ok((Field::Switch(Switch::PropertyWrites), _)) => Some(2),
-        Ok((Field::Switch(Switch::UnknownGlobals), _)) => Some(3),
+        Ok((Field::Switch(switch), _)) => Some(switch as u8),
         _ => None,
     }
 }

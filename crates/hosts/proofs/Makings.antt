@@ -2,6 +2,7 @@
 use Rattle.std.proofs.Common.{◌≡◌, ℕ, zero, suc, ◌-◌, ◌≤◌, Bool, true, false, cond, ◌&&◌, eqb, ltb, List, [], ◌∷◌, ◌++◌, length, Ok, Err, Result, sym, refl, ap, ◌∙◌, subst, inl, inr, append_assoc, arith, eqb-true}
 use Rattle.packed.specs.declared.field.Scope.{Scope}
 use Rattle.packed.specs.declared.refusal.Reason.{Reason}
+use Rattle.packed.specs.declared.refusal.Reason.TheVariants.{BadText}
 use Rattle.packed.specs.declared.refusal.Refusal.{Refusal}
 use Rattle.packed.specs.Fields.{Told, node, scope, switch, name, other, has_node_tag}
 use Rattle.packed.specs.Reading.{and_then, read_at}
@@ -12,7 +13,7 @@ use Rattle.hosts.specs.Scopes.{highest, scope_added}
 use Rattle.hosts.specs.Gathering.{Gathered, fresh, with_scopes, table_takes, name_takes, placed, gathers}
 use Rattle.hosts.specs.NameMeaning.{named, names_from}
 use Rattle.hosts.specs.ByFields.{Stand, none, one, Ends, scoped, scopes_of, switched, switches_after, names_of, MadeByFields}
-use Rattle.hosts.proofs.Gatherings.{forward}
+use Rattle.packed.proofs.NodesRead.{forward}
 use Rattle.hosts.proofs.Naming.{names_end, names_more}
 
 -- what one field more tells
@@ -36,26 +37,31 @@ added_is limit scopes more s h =
     let h2 = pass (ltb (length scopes) limit) _ _ more h1.1 in
     sym (ok_same _ more h2.1)
 
-scoped_is : (limit : ℕ) (g : Gathered) (s : Scope) (more : Gathered) (x : Result (List Scope) Reason) → scope_added limit g.scopes s ≡ x →
-    with_scopes g x ≡ Ok more → Tells g (scope s) more
-scoped_is limit g s more (Ok scopes) e h =
-    subst (Tells g (scope s)) (ok_same _ more h) (record { scopes = added_is limit g.scopes scopes s e; switches = refl })
-scoped_is limit g s more (Err r) e h = absurd (no_err r more h)
+-- one field more that leaves these records, and the switches as they are
+recorded : (g : Gathered) (t : Told) (more : Gathered) → switched t g.switches ≡ g.switches → (x : Result (List Scope) Reason) →
+    ((scopes : List Scope) → x ≡ Ok scopes → scopes ≡ g.scopes ++ scoped t []) → with_scopes g x ≡ Ok more → Tells g t more
+recorded g t more w (Ok scopes) e h = subst (Tells g t) (ok_same _ more h) (record { scopes = e scopes refl; switches = sym w })
+recorded g t more w (Err r) e h = absurd (no_err r more h)
+
+refused_field : (b : Bool) (e r : Reason) (more : Gathered) → ◌≡◌ {A = Result Gathered Reason} (cond b (Err e) (Err r)) (Ok more) → ⊥
+refused_field true e r more h = no_err e more h
+refused_field false e r more h = no_err r more h
 
 pub table_faithful : (limit : ℕ) → Faithful (table_takes limit)
 table_faithful limit g (node kind detail count reference text) more h = absurd (no_err _ more h)
-table_faithful limit g (scope s) more h = scoped_is limit g s more (scope_added limit g.scopes s) refl h
+table_faithful limit g (scope s) more h = recorded g (scope s) more refl (scope_added limit g.scopes s) (λ scopes e. added_is limit g.scopes scopes s e) h
 table_faithful limit g (switch s) more h = subst (Tells g (switch s)) (ok_same _ more h) (untold g (switch s) _ refl refl refl)
 table_faithful limit g (name text) more h = absurd (no_err _ more h)
-table_faithful limit g (other tag payload) more h = absurd (no_err _ more h)
+table_faithful limit g (other tag payload) more h = absurd (refused_field (eqb tag 3) _ _ more h)
 
 pub name_faithful : Faithful name_takes
 name_faithful g (node kind detail count reference text) more h = absurd (no_err _ more h)
 name_faithful g (scope s) more h = absurd (no_err _ more h)
 name_faithful g (switch s) more h = subst (Tells g (switch s)) (ok_same _ more h) (untold g (switch s) _ refl refl refl)
 name_faithful g (name text) more h =
-    subst (Tells g (name text)) (ok_same g more (pass (ltb 0 (length text) && utf8 text) _ _ more h).1) (untold g (name text) g refl refl refl)
-name_faithful g (other tag payload) more h = absurd (no_err _ more h)
+    recorded g (name text) more refl (cond (ltb 0 (length text) && utf8 text) (Ok g.scopes) (Err BadText))
+    (λ scopes e. sym (ok_same g.scopes scopes (pass (ltb 0 (length text) && utf8 text) _ _ scopes e).1) ∙ sym (append_none g.scopes)) h
+name_faithful g (other tag payload) more h = absurd (refused_field (eqb tag 3) _ _ more h)
 
 -- the fields that were gathered from p on
 

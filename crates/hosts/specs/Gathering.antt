@@ -16,9 +16,13 @@ pub record Gathered : Type 0 where
   pub scopes : List Scope
   pub switches : Switches
 
--- nothing yet: all switches are counted
+-- no switch yet: all are counted
+abbrev pub begun : List Scope → Gathered
+begun scopes = record { scopes = scopes; switches = all_counted }
+
+-- nothing yet
 abbrev pub fresh : Gathered
-fresh = record { scopes = []; switches = all_counted }
+fresh = begun []
 
 abbrev pub with_switches : Gathered → Switches → Gathered
 with_switches g s = record { scopes = g.scopes; switches = s }
@@ -27,21 +31,37 @@ abbrev pub with_scopes : Gathered → Result (List Scope) Reason → Result Gath
 with_scopes g (Ok scopes) = Ok (record { scopes = scopes; switches = g.switches })
 with_scopes g (Err e) = Err e
 
--- one field more of a table host, which has room for so many records: a scope record or a switch
-abbrev pub table_takes : ℕ → Gathered → Told → Result Gathered Reason
-table_takes limit g (node kind detail count reference text) = Err WrongTag
-table_takes limit g (scope s) = with_scopes g (scope_added limit g.scopes s)
-table_takes limit g (switch s) = Ok (with_switches g (turned s g.switches))
-table_takes limit g (name text) = Err WrongTag
-table_takes limit g (other tag payload) = Err (cond (tag == 3) BadSwitch (cond (tag == 2) BadScope WrongTag))
+-- one field more of a host, which takes fields into its records so: a switch is no more counted
+abbrev pub host_takes : (List Scope → Told → Result (List Scope) Reason) → Gathered → Told → Result Gathered Reason
+host_takes takes g (node kind detail count reference text) = with_scopes g (takes g.scopes (node kind detail count reference text))
+host_takes takes g (scope s) = with_scopes g (takes g.scopes (scope s))
+host_takes takes g (switch s) = Ok (with_switches g (turned s g.switches))
+host_takes takes g (name text) = with_scopes g (takes g.scopes (name text))
+host_takes takes g (other tag payload) = cond (tag == 3) (Err BadSwitch) (with_scopes g (takes g.scopes (other tag payload)))
 
--- one field more of a name host: a declared name, not empty and in UTF-8, or a switch
+-- one field more of a table, which has room for so many records: a scope record
+abbrev pub record_takes : ℕ → List Scope → Told → Result (List Scope) Reason
+record_takes limit scopes (node kind detail count reference text) = Err WrongTag
+record_takes limit scopes (scope s) = scope_added limit scopes s
+record_takes limit scopes (switch s) = Err WrongTag
+record_takes limit scopes (name text) = Err WrongTag
+record_takes limit scopes (other tag payload) = Err (cond (tag == 2) BadScope WrongTag)
+
+-- one field more of declared names, which keep no records: a name, not empty and in UTF-8
+abbrev pub declaration_takes : List Scope → Told → Result (List Scope) Reason
+declaration_takes scopes (node kind detail count reference text) = Err WrongTag
+declaration_takes scopes (scope s) = Err WrongTag
+declaration_takes scopes (switch s) = Err WrongTag
+declaration_takes scopes (name text) = cond (nat_lt 0 (length text) && utf8 text) (Ok scopes) (Err BadText)
+declaration_takes scopes (other tag payload) = Err WrongTag
+
+-- one field more of a table host: a scope record or a switch
+abbrev pub table_takes : ℕ → Gathered → Told → Result Gathered Reason
+table_takes limit = host_takes (record_takes limit)
+
+-- one field more of a name host: a declared name or a switch
 abbrev pub name_takes : Gathered → Told → Result Gathered Reason
-name_takes g (node kind detail count reference text) = Err WrongTag
-name_takes g (scope s) = Err WrongTag
-name_takes g (switch s) = Ok (with_switches g (turned s g.switches))
-name_takes g (name text) = cond (nat_lt 0 (length text) && utf8 text) (Ok g) (Err BadText)
-name_takes g (other tag payload) = Err (cond (tag == 3) BadSwitch WrongTag)
+name_takes = host_takes declaration_takes
 
 -- a reason, with its place
 abbrev pub placed : {A : Type 0} → ℕ → Result A Reason → Result A Refusal
@@ -60,7 +80,12 @@ gathers takes (suc fields) file p g =
 abbrev pub gathered_from : (Gathered → Told → Result Gathered Reason) → List ℕ → Result (Gathered × ℕ) Refusal
 gathered_from takes file = gathers takes (length file) file 0 fresh
 
--- an answered place, with what was told
-abbrev pub reached : Result ℕ Refusal → Gathered → Result (Gathered × ℕ) Refusal
-reached (Ok p) g = Ok (g, p)
-reached (Err e) g = Err e
+-- answered switches, with the records beside them
+abbrev pub with_records : {E : Type 0} → Result Switches E → List Scope → Result Gathered E
+with_records (Ok s) scopes = Ok (record { scopes = scopes; switches = s })
+with_records (Err e) scopes = Err e
+
+-- the same, with the place reached
+abbrev pub reached : Result (Switches × ℕ) Refusal → List Scope → Result (Gathered × ℕ) Refusal
+reached (Ok a) scopes = Ok (record { scopes = scopes; switches = a.0 }, a.1)
+reached (Err e) scopes = Err e

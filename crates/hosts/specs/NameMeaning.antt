@@ -4,6 +4,8 @@ use Rattle.packed.specs.declared.refusal.Refusal.{Refusal}
 use Rattle.packed.specs.Fields.{Told, node, scope, switch, name, other}
 use Rattle.packed.specs.Reading.{read_at}
 use Rattle.tables.specs.Order.{listed}
+use Rattle.packed.specs.Listing.{fields_left}
+use Rattle.hosts.specs.declared.declared_names.DeclaredNames.{DeclaredNames}
 use Rattle.hosts.specs.declared.name_host.NameHost.{NameHost}
 use Rattle.hosts.specs.Host.{Host}
 use Rattle.hosts.specs.Gathering.{Gathered}
@@ -28,6 +30,15 @@ names_from (suc fields) file end p = cond (nat_lt p end) (names_then (read_at fi
 -- the declared names of a file, up to the end; a field has three bytes at least, so there are no more than bytes
 abbrev pub declared : List ℕ → ℕ → List (List ℕ)
 declared file end = names_from (length file) file end 0
+
+-- the names that listed fields declare, up to the end
+abbrev pub names_in : ℕ → List (Result (ℕ × Told) Refusal) → List (List ℕ)
+names_in end [] = []
+names_in end (Ok a ∷ fields) = cond (nat_lt a.0 end) (named a.1 (names_in end fields)) []
+names_in end (Err e ∷ fields) = []
+
+abbrev pub names_left : DeclaredNames → List (List ℕ)
+names_left s = names_in s.end (fields_left s.fields)
 
 -- what it was told, besides names
 abbrev pub name_gathered : NameHost → Gathered

@@ -2,6 +2,7 @@
 
 #![tactic(auto)]
 
+mod declared_names;
 mod gathering;
 mod global_context;
 mod loosening;

@@ -1,14 +1,15 @@
 //! A host that knows which names a file declares, and no types.
 
-ghost use Rattle.std.specs.Prelude.{◌≡◌, length, IfOk, refl};
+ghost use Rattle.std.specs.Prelude.{◌≡◌, [], length, IfOk, refl};
 ghost use Rattle.tables.specs.Order.{listed};
 ghost use Rattle.hosts.specs.ByFields.{MadeByFields};
-ghost use Rattle.hosts.specs.Gathering.{name_takes, gathered_from};
-ghost use Rattle.hosts.specs.NameMeaning.{declared, name_gathered, name_made, name_view};
+ghost use Rattle.hosts.specs.Gathering.{declaration_takes, name_takes, gathered_from};
+ghost use Rattle.hosts.specs.NameMeaning.{declared, name_made, name_view};
 
-use crate::gathering::{Gathers, field_at, gather};
+use crate::declared_names::DeclaredNames;
+use crate::gathering::{Gathers, gather};
 use crate::global_context::GlobalContext;
-use crate::side_effects::context::{MayHaveSideEffectsContext, PropertyReadSideEffects};
+use crate::side_effects::context::MayHaveSideEffectsContext;
 use crate::switches::Switches;
 use packed::{Field, Reason, Refusal, Switch, ValueType};
 use text::is_utf8;
@@ -22,97 +23,52 @@ pub struct NameHost<'a> {
     switches: Switches,
 }
 
-impl<'a> Gathers for NameHost<'a> {
-    ghost gathered = { name_gathered };
+/// The fields that may declare a name: of declared names, only their text matters while they are gathered.
+#[derive(Clone, Copy)]
+struct Declarations;
 
-    ghost takes = { λ _. name_takes };
+impl Gathers for Declarations {
+    ghost records = { λ _. [] };
+
+    ghost takes = { λ _. declaration_takes };
 
     fn take(&mut self, field: Field<'_>) -> Result<(), Reason> {
         match field {
-            Field::Name(name) => {
-                if name.is_empty() || !is_utf8(name) {
-                    return Err(Reason::BadText);
-                }
-                Ok(())
-            }
-            Field::Switch(switch) => {
-                self.switches = self.switches.without(switch);
-                Ok(())
-            }
-            Field::Other { tag: 3, .. } => Err(Reason::BadSwitch),
+            Field::Name(name) if name.is_empty() || !is_utf8(name) => Err(Reason::BadText),
+            Field::Name(_) => Ok(()),
             _ => Err(Reason::WrongTag),
         }
     }
 }
 
 impl<'a> NameHost<'a> {
-    /// `make`, without the law.
-    fn of_fields(file: &'a [u8]) -> Result<(NameHost<'a>, usize), Refusal>
-        ensures made { name_made result ≡ gathered_from name_takes file.now }
-        ensures kept { IfOk result (λ a. (a.0.file.now ≡ file.now) × (a.0.end ≡ a.1)) }
-    {
-        let mut host = NameHost {
-            file,
-            end: 0,
-            switches: Switches::new(),
-        };
-        let place = gather(file, &mut host)?;
-        let switches = host.switches;
-        let end = place;
-        Ok((
-            NameHost {
-                file,
-                end,
-                switches,
-            },
-            place,
-        ))
-    }
-
     /// The host that the fields before the first node tell, and that node's place.
     pub fn make(file: &'a [u8]) -> Result<(NameHost<'a>, usize), Refusal>
         ensures made { name_made result ≡ gathered_from name_takes file.now }
         ensures kept { IfOk result (λ a. (a.0.file.now ≡ file.now) × (a.0.end ≡ a.1)) }
         ensures told { MadeByFields name_takes file.now }
     {
-        NameHost::of_fields(file)
+        let (switches, end) = gather(file, &mut Declarations)?;
+        let host = NameHost {
+            file,
+            end,
+            switches,
+        };
+        Ok((host, end))
     }
 
     /// How many names it declares.
     pub fn names(&self) -> usize
         ensures { result ≡ length (declared self.now.file.now self.now.end) }
     {
-        let mut count = 0;
-        let mut place = 0;
-        while place < self.end {
-            let Ok((field, next)) = field_at(self.file, place) else {
-                return count;
-            };
-            if let Field::Name(_) = field {
-                count += 1;
-            }
-            place = next;
-        }
-        count
+        DeclaredNames::new(self.file, self.end).count()
     }
 
     /// Whether it declares the name.
     fn declares(&self, name: &[u8]) -> bool
         ensures { result ≡ listed (declared self.now.file.now self.now.end) name.now }
     {
-        let mut place = 0;
-        while place < self.end {
-            let Ok((field, next)) = field_at(self.file, place) else {
-                return false;
-            };
-            if let Field::Name(declared) = field {
-                if declared == name {
-                    return true;
-                }
-            }
-            place = next;
-        }
-        false
+        DeclaredNames::new(self.file, self.end).any(|declared| declared == name)
     }
 }
 
@@ -131,16 +87,8 @@ impl<'a> GlobalContext for NameHost<'a> {
 }
 
 impl<'a> MayHaveSideEffectsContext for NameHost<'a> {
-    fn property_read_side_effects(&self) -> PropertyReadSideEffects {
-        self.switches.property_reads()
-    }
-
-    fn property_write_side_effects(&self) -> bool {
-        self.switches.writes
-    }
-
-    fn unknown_global_side_effects(&self) -> bool {
-        self.switches.unknown_globals
+    fn switches(&self) -> Switches {
+        self.switches
     }
 
     fn loosen(&mut self, switch: Switch) {

@@ -9,7 +9,7 @@ use packed::Switch;
 use std::fmt;
 
 /// The switches of a host, each counted or not.
-#[derive(Clone, Copy)]
+#[derive(Clone, Copy, Debug, PartialEq, Eq)]
 pub struct Switches {
     pub reads: bool,
     pub writes: bool,
@@ -68,13 +68,5 @@ impl Switches {
 pub fn counted<C: MayHaveSideEffectsContext>(host: &C) -> Switches
     ensures { result ≡ (C.GlobalContext.view host.now).switches }
 {
-    let reads = match host.property_read_side_effects() {
-        PropertyReadSideEffects::All => true,
-        PropertyReadSideEffects::None => false,
-    };
-    Switches {
-        reads,
-        writes: host.property_write_side_effects(),
-        unknown_globals: host.unknown_global_side_effects(),
-    }
+    host.switches()
 }

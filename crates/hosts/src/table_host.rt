@@ -1,16 +1,16 @@
 //! A host that looks references up in scope records.
 
-ghost use Rattle.std.specs.Prelude.{◌≡◌, vec_len, vec_capacity, refl};
+ghost use Rattle.std.specs.Prelude.{◌≡◌, vec_items, vec_len, vec_capacity, refl};
 ghost use Rattle.hosts.specs.ByFields.{MadeByFields};
-ghost use Rattle.hosts.specs.Gathering.{table_takes, gathered_from};
-ghost use Rattle.hosts.specs.TableMeaning.{record_of, table_gathered, table_made, table_view};
+ghost use Rattle.hosts.specs.Gathering.{record_takes, table_takes, gathered_from};
+ghost use Rattle.hosts.specs.TableMeaning.{record_of, table_made, table_view};
 
 use crate::gathering::{Gathers, gather};
 use crate::global_context::GlobalContext;
 use crate::scope_table::ScopeTable;
-use crate::side_effects::context::{MayHaveSideEffectsContext, PropertyReadSideEffects};
+use crate::side_effects::context::MayHaveSideEffectsContext;
 use crate::switches::Switches;
-use packed::{Field, Reason, Refusal, Scope, Switch, ValueType};
+use packed::{Field, Reason, Refusal, Scope, Switch, Tag, ValueType};
 
 /// Scope records and switches: a reference without a record, or 0, is outer and has no type.
 #[derive(Drop)]
@@ -19,44 +19,29 @@ pub struct TableHost {
     switches: Switches,
 }
 
-impl Gathers for TableHost {
-    ghost gathered = { table_gathered };
+impl Gathers for ScopeTable {
+    ghost records = { λ t. vec_items t.records };
 
-    ghost takes = { λ t. table_takes (vec_capacity t.scopes.records) };
+    ghost takes = { λ t. record_takes (vec_capacity t.records) };
 
     fn take(&mut self, field: Field<'_>) -> Result<(), Reason> {
         match field {
-            Field::Scope(scope) => self.scopes.append(scope),
-            Field::Switch(switch) => {
-                self.switches = self.switches.without(switch);
-                Ok(())
-            }
-            Field::Other { tag: 3, .. } => Err(Reason::BadSwitch),
-            Field::Other { tag: 2, .. } => Err(Reason::BadScope),
+            Field::Scope(scope) => self.append(scope),
+            field if field.tag() == Some(Tag::Scope) => Err(Reason::BadScope),
             _ => Err(Reason::WrongTag),
         }
     }
 }
 
 impl TableHost {
-    /// `make`, without the law.
-    fn of_fields(file: &[u8], memory: Vec<Scope>) -> Result<(TableHost, usize), Refusal>
-        ensures { table_made result ≡ gathered_from (table_takes (vec_capacity memory)) file.now }
-    {
-        let mut host = TableHost {
-            scopes: ScopeTable::new(memory),
-            switches: Switches::new(),
-        };
-        let place = gather(file, &mut host)?;
-        Ok((host, place))
-    }
-
     /// The host that the fields before the first node tell, and that node's place; the memory's capacity limits the records.
     pub fn make(file: &[u8], memory: Vec<Scope>) -> Result<(TableHost, usize), Refusal>
         ensures call { table_made result ≡ gathered_from (table_takes (vec_capacity memory)) file.now }
         ensures told { MadeByFields (table_takes (vec_capacity memory)) file.now }
     {
-        TableHost::of_fields(file, memory)
+        let mut scopes = ScopeTable::new(memory);
+        let (switches, place) = gather(file, &mut scopes)?;
+        Ok((TableHost { scopes, switches }, place))
     }
 
     /// How many records it has.
@@ -90,24 +75,13 @@ impl GlobalContext for TableHost {
     }
 
     fn value_type_for_reference_id(&self, reference: u16) -> Option<ValueType> {
-        match self.record_of(reference) {
-            Some(scope) => scope.value_type,
-            None => None,
-        }
+        self.record_of(reference)?.value_type
     }
 }
 
 impl MayHaveSideEffectsContext for TableHost {
-    fn property_read_side_effects(&self) -> PropertyReadSideEffects {
-        self.switches.property_reads()
-    }
-
-    fn property_write_side_effects(&self) -> bool {
-        self.switches.writes
-    }
-
-    fn unknown_global_side_effects(&self) -> bool {
-        self.switches.unknown_globals
+    fn switches(&self) -> Switches {
+        self.switches
     }
 
     fn loosen(&mut self, switch: Switch) {

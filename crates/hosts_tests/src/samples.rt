@@ -1,7 +1,7 @@
 //! Small functions that the tests share.
 
 use hosts::{GlobalContext, MayHaveSideEffectsContext, PropertyReadSideEffects, counted};
-use packed::{Refusal, Scope, ValueType};
+use packed::{Refusal, Scope};
 use std::alloc::{AllocError, Global};
 use std::process::Abort;
 use std::test::Fail;
@@ -38,26 +38,11 @@ pub fn told(refusal: Refusal) -> (u8, usize) {
     (refusal.reason.number(), refusal.place)
 }
 
-/// The number of a type in the format, 0 for none.
-fn type_number(value_type: Option<ValueType>) -> u8 {
-    match value_type {
-        None => 0,
-        Some(ValueType::Undefined) => 1,
-        Some(ValueType::Null) => 2,
-        Some(ValueType::Number) => 3,
-        Some(ValueType::BigInt) => 4,
-        Some(ValueType::String) => 5,
-        Some(ValueType::Boolean) => 6,
-        Some(ValueType::Object) => 7,
-        Some(ValueType::Undetermined) => 8,
-    }
-}
-
 /// What a host answers of a name and a reference: whether it is outer, and the number of its type.
 pub fn ask<C: GlobalContext>(host: &C, name: &[u8], reference: u16) -> (bool, u8) {
     let outer = host.is_global_reference(name, reference);
     let value_type = host.value_type_for_reference_id(reference);
-    (outer, type_number(value_type))
+    (outer, value_type.map_or(0, |value_type| value_type as u8))
 }
 
 /// Checks what a host answers to each question.
@@ -75,10 +60,7 @@ pub fn check_switches<C: MayHaveSideEffectsContext>(
     switches: (bool, bool, bool),
     step: u8,
 ) {
-    let reads = match host.property_read_side_effects() {
-        PropertyReadSideEffects::All => true,
-        PropertyReadSideEffects::None => false,
-    };
+    let reads = host.property_read_side_effects() == PropertyReadSideEffects::All;
     let writes = host.property_write_side_effects();
     let globals = host.unknown_global_side_effects();
     assert_eq!(rt; (reads, writes, globals), switches, "by {step}");

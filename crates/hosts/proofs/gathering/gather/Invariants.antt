@@ -1,14 +1,13 @@
-use Rattle.std.proofs.Common.{◌≡◌, ℕ, ◌-◌, ◌≤◌, length}
-use Rattle.hosts.specs.Gathering.{gathers}
+use Rattle.std.proofs.Common.{◌≡◌, length}
+use Rattle.packed.specs.Listing.{fields_left}
+use Rattle.hosts.specs.Gathering.{begun, host_takes, gathers}
+use Rattle.hosts.proofs.Gatherings.{gathered_of}
 use Rattle.hosts.proofs.gathering.gather.Given as goal
 
 -- what is left decides
-abbrev pub invariant-loop-place : goal.invariant-loop-place
-invariant-loop-place g l =
-    (l.place ≤ length l.file) × (g.G.Gathers.takes l.host ≡ g.G.Gathers.takes l.initial.host) ×
-    ((fields : ℕ) × ((length l.file - l.place ≤ fields) ×
-    (gathers (g.G.Gathers.takes l.initial.host) fields l.file l.place (g.G.Gathers.gathered l.host) ≡
-    gathers (g.G.Gathers.takes l.initial.host) (length l.file) l.file 0 (g.G.Gathers.gathered l.initial.host))))
-
-abbrev pub decreases-loop-place : goal.decreases-loop-place
-decreases-loop-place g l = length l.file - l.place
+abbrev pub invariant-loop-field : goal.invariant-loop-field
+invariant-loop-field g l = record {
+  same : g.G.Gathers.takes l.host ≡ g.G.Gathers.takes l.initial.host;
+  left : gathered_of (host_takes (g.G.Gathers.takes l.initial.host)) (length l.file) (fields_left l.field-iterator) (record { scopes = g.G.Gathers.records l.host; switches = l.switches }) ≡
+      gathers (host_takes (g.G.Gathers.takes l.initial.host)) (length l.file) l.file 0 (begun (g.G.Gathers.records l.initial.host));
+}
