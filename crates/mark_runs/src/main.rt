@@ -4,6 +4,7 @@
 
 use anyhow::anyhow;
 use drafts::Record;
+use hex::FromHexError;
 use marking::read_hook;
 use std::alloc::{AllocError, Global};
 use std::io::{BufRead, BufReader};
@@ -14,30 +15,14 @@ const NODES: usize = 2048;
 /// How many scope records it holds.
 const SCOPES: usize = 1024;
 
-/// The bytes that hexadecimal digits write; spaces are passed over, and `None` is for any other byte or a lone digit.
-fn bytes_of(heap: Global, text: &str) -> Result<Option<Vec<u8>>, AllocError> {
-    let mut bytes = Vec::new(heap);
-    let mut high: Option<u8> = None;
-    for c in text.chars() {
-        if c == ' ' {
-            continue;
-        }
-        let Some(digit) = c.to_digit(16) else {
-            return Ok(None);
-        };
-        let digit = (digit & 15) as u8;
-        match high {
-            None => high = Some(digit),
-            Some(h) => {
-                bytes.push((h & 15) * 16 + digit)?;
-                high = None;
-            }
-        }
+/// The bytes that hexadecimal digits write; spaces are passed over.
+fn bytes_of(heap: Global, text: &str) -> anyhow::Result<Vec<u8>> {
+    let digits: String = text.chars().filter(|c| *c != ' ').collect(heap)?;
+    match hex::decode(heap, digits.as_str()) {
+        Ok(bytes) => Ok(bytes),
+        Err(FromHexError::OutOfMemory) => Err(AllocError.into()),
+        Err(_) => Err(anyhow!("a line without hexadecimal digits")),
     }
-    if high.is_some() {
-        return Ok(None);
-    }
-    Ok(Some(bytes))
 }
 
 /// Prints the name, and what `mark` prints of the hook.
@@ -55,12 +40,10 @@ fn main(rt: HostRuntime) -> anyhow::Result<()> {
     let heap = rt.alloc();
     for line in BufReader::new(heap, rt.stdin())?.lines(heap) {
         let line = line?;
-        let Some((name, hex)) = line.as_str().split_once(" | ") else {
+        let Some((name, digits)) = line.as_str().split_once(" | ") else {
             return Err(anyhow!("a line without ` | `"));
         };
-        let Some(file) = bytes_of(heap, hex)? else {
-            return Err(anyhow!("a line without hexadecimal digits"));
-        };
+        let file = bytes_of(heap, digits)?;
         run(&rt, name, &file)?;
     }
     Ok(())

@@ -2,14 +2,13 @@
 
 ghost use Rattle.std.specs.Prelude.{◌≡◌, Some};
 ghost use Rattle.packed.specs.Fields.{told};
-ghost use Rattle.packed.specs.Reading.{said, read_at};
 ghost use Rattle.marking.specs.Choices.{decides, kind_of, kind_word};
 
-use packed::{Field, Refusal, read_field};
+use packed::{Field, Fields, Tag};
 use std::fmt;
 
 /// A kind of host.
-#[derive(Clone, Copy)]
+#[derive(Clone, Copy, Debug, PartialEq, Eq)]
 pub enum HostKind {
     /// One of scope records.
     Table,
@@ -28,21 +27,14 @@ impl fmt::Display for HostKind {
     }
 }
 
-/// `read_field`, without its law.
-fn field_at(file: &[u8], place: usize) -> Result<(Field<'_>, usize), Refusal>
-    ensures { said result ≡ read_at file.now place }
-{
-    read_field(file, place)
-}
-
 /// The kind of host that a field decides for by its tag, if it does.
 fn decided_by(field: Field<'_>) -> Option<HostKind>
     ensures { result ≡ decides (told field.entry) }
 {
-    match field {
-        Field::Name(_) => Some(HostKind::Names),
-        Field::Node(_) | Field::Scope(_) | Field::Other { tag: 1 | 2, .. } => Some(HostKind::Table),
-        Field::Switch(_) | Field::Other { .. } => None,
+    match (field, field.tag()) {
+        (Field::Name(_), _) => Some(HostKind::Names),
+        (_, Some(Tag::Node | Tag::Scope)) => Some(HostKind::Table),
+        _ => None,
     }
 }
 
@@ -50,12 +42,7 @@ fn decided_by(field: Field<'_>) -> Option<HostKind>
 pub fn host_kind(file: &[u8]) -> HostKind
     ensures { result ≡ kind_of file.now }
 {
-    let mut place = 0;
-    while let Ok((field, next)) = field_at(file, place) {
-        if let Some(kind) = decided_by(field) {
-            return kind;
-        }
-        place = next;
-    }
-    HostKind::Table
+    Fields::new(file)
+        .find_map(|field| decided_by(field.ok()?.1))
+        .unwrap_or(HostKind::Table)
 }

@@ -9,7 +9,7 @@ use packed::{Refusal, Scope};
 use std::fmt;
 
 /// How many nodes and lines a hook has, and which host.
-#[derive(Clone, Copy)]
+#[derive(Clone, Copy, Debug, PartialEq, Eq)]
 pub struct Report {
     pub nodes: u16,
     pub lines: usize,

@@ -1,15 +1,15 @@
 //! What a host holds.
 
 ghost use Rattle.std.specs.Prelude.{◌≡◌, Some, vec_capacity};
-ghost use Rattle.marking.specs.HostReports.{host_line, host_reported, table_reported, names_reported};
+ghost use Rattle.marking.specs.HostReports.{host_line, host_reported};
 
 use crate::choice::{HostKind, host_kind};
-use hosts::{NameHost, Switches, TableHost, counted};
+use hosts::{MayHaveSideEffectsContext, NameHost, Switches, TableHost, counted};
 use packed::{Refusal, Scope};
 use std::fmt;
 
 /// Which host a file gives, how many records or names it holds, and which switches it counts.
-#[derive(Clone, Copy)]
+#[derive(Clone, Copy, Debug, PartialEq, Eq)]
 pub struct HostReport {
     pub kind: HostKind,
     pub held: usize,
@@ -27,30 +27,15 @@ impl fmt::Display for HostReport {
     }
 }
 
-/// The table host of a file.
-fn read_table_host(file: &[u8], memory: Vec<Scope>) -> Result<(HostReport, usize), Refusal>
-    ensures { result ≡ table_reported (vec_capacity memory) file.now }
+/// What is reported of a host of this kind, which holds so many records or names.
+fn report<C: MayHaveSideEffectsContext>(kind: HostKind, held: usize, host: &C) -> HostReport
+    ensures { result ≡ record { kind = kind; held = held; switches = (C.GlobalContext.view host.now).switches } }
 {
-    let (host, place) = TableHost::make(file, memory)?;
-    let report = HostReport {
-        kind: HostKind::Table,
-        held: host.records(),
-        switches: counted(&host),
-    };
-    Ok((report, place))
-}
-
-/// The name host of a file.
-fn read_name_host(file: &[u8]) -> Result<(HostReport, usize), Refusal>
-    ensures { result ≡ names_reported file.now }
-{
-    let (host, place) = NameHost::make(file)?;
-    let report = HostReport {
-        kind: HostKind::Names,
-        held: host.names(),
-        switches: counted(&host),
-    };
-    Ok((report, place))
+    HostReport {
+        kind,
+        held,
+        switches: counted(host),
+    }
 }
 
 /// The host that the file gives, and the place of the first node; the memory's capacity limits the scope records.
@@ -58,7 +43,13 @@ pub fn read_host(file: &[u8], memory: Vec<Scope>) -> Result<(HostReport, usize),
     ensures { result ≡ host_reported (vec_capacity memory) file.now }
 {
     match host_kind(file) {
-        HostKind::Table => read_table_host(file, memory),
-        HostKind::Names => read_name_host(file),
+        HostKind::Table => {
+            let (host, place) = TableHost::make(file, memory)?;
+            Ok((report(HostKind::Table, host.records(), &host), place))
+        }
+        HostKind::Names => {
+            let (host, place) = NameHost::make(file)?;
+            Ok((report(HostKind::Names, host.names(), &host), place))
+        }
     }
 }
