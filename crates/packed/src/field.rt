@@ -112,6 +112,7 @@ fn take_field(file: &[u8], place: usize) -> (Field<'_>, usize)
 }
 
 /// The field at `place` and the place of the next; or the refusal of a file that is too long, or of a field that is cut.
+#[inline(always)]
 pub fn read_field(file: &[u8], place: usize) -> Result<(Field<'_>, usize), Refusal>
     ensures answer { said result ≡ read_at file.now place }
     ensures held { Reads file.now place (said result) }

@@ -19,6 +19,7 @@ pub struct RawNode<'a> {
 }
 
 /// The node at `place` and the place of the next field, or the refusal of what is no node.
+#[inline(always)]
 pub fn node_at(file: &[u8], place: usize) -> Result<(RawNode<'_>, usize), Refusal>
     ensures { said_node result ≡ node_at file.now place }
 {
