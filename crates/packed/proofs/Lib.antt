@@ -1,4 +1,3 @@
-pub mod Parts
 pub mod Layouts
 pub mod Steps
 pub mod NodesRead

@@ -1,9 +1,9 @@
 //! One field of a file.
 
-ghost use Rattle.std.specs.Prelude.{◌≡◌, ◌+◌, ◌≤◌, length, nat_le};
-ghost use Rattle.packed.specs.Fields.{told, has_node_tag, tag_named, field_of, field_at, word_at, next_at};
+ghost use Rattle.std.specs.Prelude.{◌≡◌};
+ghost use Rattle.packed.specs.Fields.{told, has_node_tag, tag_named, field_of};
 ghost use Rattle.packed.specs.Layout.{Reads};
-ghost use Rattle.packed.specs.Reading.{said, read_at};
+ghost use Rattle.packed.specs.Reading.{said, said_whole, whole_at, read_at};
 
 use super::node::RawNode;
 use super::refusal::{Reason, Refusal};
@@ -83,32 +83,16 @@ fn field_of(tag: u8, payload: &[u8]) -> Field<'_>
     }
 }
 
-/// The length that the field at `place` gives for its payload.
-fn payload_len(file: &[u8], place: usize) -> usize
-    requires { place + 3 ≤ length file.now }
-    ensures { result ≡ word_at file.now (place + 1) }
+/// The field at `place`, if it ends within the file, and the place of the next.
+#[inline(always)]
+fn field_at(file: &[u8], place: usize) -> Option<(Field<'_>, usize)>
+    ensures { said_whole result ≡ whole_at file.now place }
 {
-    u16::from_be_bytes([file[place + 1], file[place + 2]]) as usize
-}
-
-/// Whether the field at `place` ends within the file.
-fn is_whole(file: &[u8], place: usize) -> bool
-    ensures { result ≡ nat_le (next_at file.now place) (length file.now) }
-{
-    place < file.len()
-        && file.len() - place >= 3
-        && payload_len(file, place) <= file.len() - place - 3
-}
-
-/// The field at `place`, which is whole, and the place of the next.
-fn take_field(file: &[u8], place: usize) -> (Field<'_>, usize)
-    requires { next_at file.now place ≤ length file.now }
-    ensures field { told result.0 ≡ field_at file.now place }
-    ensures next { result.1 ≡ next_at file.now place }
-{
-    let from = place + 3;
-    let next = from + payload_len(file, place);
-    (field_of(file[place], &file[from..next]), next)
+    let [tag, high, low, rest @ ..] = file.get(place..)? else {
+        return None;
+    };
+    let payload = rest.get(..usize::from(u16::from_be_bytes([*high, *low])))?;
+    Some((field_of(*tag, payload), place + 3 + payload.len()))
 }
 
 /// The field at `place` and the place of the next; or the refusal of a file that is too long, or of a field that is cut.
@@ -123,11 +107,8 @@ pub fn read_field(file: &[u8], place: usize) -> Result<(Field<'_>, usize), Refus
             place: MAX_FILE,
         });
     }
-    if !is_whole(file, place) {
-        return Err(Refusal {
-            reason: Reason::CutField,
-            place,
-        });
-    }
-    Ok(take_field(file, place))
+    field_at(file, place).ok_or(Refusal {
+        reason: Reason::CutField,
+        place,
+    })
 }

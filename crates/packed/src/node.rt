@@ -24,15 +24,13 @@ pub fn node_at(file: &[u8], place: usize) -> Result<(RawNode<'_>, usize), Refusa
     ensures { said_node result ≡ node_at file.now place }
 {
     let (field, next) = read_field(file, place)?;
-    match field {
-        Field::Node(node) => Ok((node, next)),
-        field if field.has_node_tag() => Err(Refusal {
-            reason: Reason::BadHeader,
-            place,
-        }),
-        _ => Err(Refusal {
-            reason: Reason::WrongTag,
-            place,
-        }),
+    if let Field::Node(node) = field {
+        return Ok((node, next));
     }
+    let reason = if field.has_node_tag() {
+        Reason::BadHeader
+    } else {
+        Reason::WrongTag
+    };
+    Err(Refusal { reason, place })
 }
