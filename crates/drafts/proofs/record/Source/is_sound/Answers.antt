@@ -16,8 +16,3 @@ returns-then-not-stands c =
     sound_not s.file.now s.records.now c.args.used c.loop-node.node (omega arith)
     (c.if-not-stands.ensures ∙ ap (stands s.file.now s.records.now) c.from.ensures)
 
-pub loop-node-preserved : goal.loop-node-preserved
-loop-node-preserved c =
-    let s = c.args.self in
-    sound_more s.file.now s.records.now c.loop-node.node c.loop-node.invariant
-    (c.if-not-stands.ensures ∙ ap (stands s.file.now s.records.now) c.from.ensures)

@@ -21,9 +21,6 @@ loop-preserved c =
     let few = many_before c.loop.counter (waits w.source w.end) c.loop.invariant.0 in
     (omega (arith, ap many more), before_more c.loop.counter (waits w.source w.end) _ _ more)
 
-pub invariant_of-last : goal.invariant_of-last
-invariant_of-last c = record { enough = omega (arith, c.loop.invariant.0, c.loop-test.false) }
-
 pub returns : goal.returns
 returns c =
     let w = c.args.self in
