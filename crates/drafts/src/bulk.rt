@@ -34,6 +34,7 @@ fn add_all(
             place: MAX_FILE,
         });
     }
+    // No `for`: where the next field begins is what `enter` answers.
     while *place != file.len() {
         *place = enter(file, draft, table, *place)?;
     }

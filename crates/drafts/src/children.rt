@@ -21,6 +21,7 @@ const CALL: u8 = 0;
 /// The first detail of a variable declaration that is a `using` one.
 const USING: u8 = 3;
 
+// A detail is a number below, since what its bits mean depends on the kind: an enum for each kind would make one bit of a row no plainer.
 impl Item {
     fn set(self) -> Set
         ensures { result ≡ set_of self }

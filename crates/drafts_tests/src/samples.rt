@@ -53,7 +53,7 @@ pub fn hook_table() -> [Record; 8] {
     ]
 }
 
-/// 0 and the answer, or the refusal's number and place.
+/// 0 and the answer, or the refusal's number and place: the numbers are the format's, which the tests are to state.
 pub fn told(answer: Result<usize, Refusal>) -> (u8, usize) {
     match answer {
         Ok(next) => (0, next),

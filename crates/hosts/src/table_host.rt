@@ -79,6 +79,7 @@ impl GlobalContext for TableHost {
     }
 }
 
+// A name host has the same two methods: a generic host over both would be longer than what it saves.
 impl MayHaveSideEffectsContext for TableHost {
     fn switches(&self) -> Switches {
         self.switches

@@ -32,6 +32,7 @@ pub enum Field<'a> {
     /// A name that the hook declares.
     Name(&'a [u8]),
     /// An unknown tag, or a payload that its tag does not allow; which refusal that is depends on the caller.
+    /// The tag is a number, since an unknown one is no `Tag`.
     Other { tag: u8, payload: &'a [u8] },
 }
 

@@ -9,6 +9,7 @@ use super::refusal::{Reason, Refusal};
 /// A node as the file has it; its text is a part of the file.
 #[derive(Clone, Copy)]
 pub struct RawNode<'a> {
+    // The file's bytes: an unknown kind or detail is a node here, and is refused by `add`, after other faults of a field.
     pub kind: u8,
     pub detail: u8,
     /// How many children it has.

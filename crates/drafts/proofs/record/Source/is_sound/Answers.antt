@@ -15,4 +15,3 @@ returns-then-not-stands c =
     let s = c.args.self in
     sound_not s.file.now s.records.now c.args.used c.loop-node.node (omega arith)
     (c.if-not-stands.ensures ∙ ap (stands s.file.now s.records.now) c.from.ensures)
-
