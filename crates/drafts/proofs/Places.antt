@@ -64,11 +64,6 @@ pub last_more : (k : ℕ) (ns : Nodes) (n : Node) → 0 < k → last_of k (ns �
 last_more zero ns n h = absurd (omega arith)
 last_more (suc k) ns n h = let back : suc k - 1 ≡ k = omega arith in rw back
 
--- one node more of the walk back
-pub size_step : (file : List ℕ) (rs : List Record) (e k : ℕ) → Spanned file rs e → 0 < e → 0 < k →
-    sizes (last_of k (waiting file rs e)) ≡ sizes (last_of (k - 1) (waiting file rs (e - (at rs (e - 1)).span))) + (at rs (e - 1)).span
-size_step file rs e k s p m = rw (layout file rs e s p, last_more k _ _ m, (s (e - 1) (omega arith)).1)
-
 pub many_step : (file : List ℕ) (rs : List Record) (e : ℕ) → Spanned file rs e → 0 < e →
     many (waiting file rs e) ≡ suc (many (waiting file rs (e - (at rs (e - 1)).span)))
 many_step file rs e s p = ap many (layout file rs e s p)

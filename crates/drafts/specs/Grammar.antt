@@ -1,9 +1,10 @@
 -- What children a row allows.
-use Rattle.std.specs.Prelude.{ℕ, ◌-◌, Bool, true, false, cond, ◌&&◌, ◌||◌, List, [], ◌∷◌, ◌==◌, bit_and, nat_le, nat_lt}
+use Rattle.std.specs.Prelude.{ℕ, ◌-◌, Bool, true, false, cond, ◌&&◌, ◌||◌, List, [], ◌∷◌, ◌==◌, nat_le, nat_lt}
 use Rattle.drafts.specs.declared.row.Set.{Set}
-use Rattle.drafts.specs.declared.row.Set.TheVariants.{Any, Only, Expression, Pattern, Statement, Target, Assigned, Element, PatternOrHole, Property, ClassElement, Link, Declarator}
+use Rattle.drafts.specs.declared.row.Set.TheVariants.{Any, Exactly, Expression, Pattern, Statement, Target, Assigned, Element, PatternOrHole, Property, ClassElement, Link, Declarator}
 use Rattle.drafts.specs.declared.row.Item.{Item}
 use Rattle.drafts.specs.declared.row.Item.TheVariants.{One, Maybe, Many, AtLeastOne, If}
+use Rattle.drafts.specs.Flags.{set_in}
 use Rattle.drafts.specs.Kinds.{number_of}
 use Rattle.drafts.specs.Tree.{Node, Nodes, node, none, ◌▸◌}
 
@@ -27,7 +28,7 @@ link k e = within 18 20 k || ((k == 23 && e == 0) || (k == 15 && e == 3))
 -- whether a node belongs to the set, as a child of a node of detail d
 abbrev pub has : Set → ℕ → Node → Bool
 has Any d (node h below) = true
-has (Only kind) d (node h below) = h.kind == number_of kind
+has (Exactly kind) d (node h below) = h.kind == number_of kind
 has Expression d (node h below) = within 1 25 h.kind
 has Pattern d (node h below) = within 42 45 h.kind
 has Statement d (node h below) = within 50 62 h.kind
@@ -47,21 +48,21 @@ set_of (One s) = s
 set_of (Maybe s) = s
 set_of (Many s) = s
 set_of (AtLeastOne s) = s
-set_of (If bit s) = s
+set_of (If flag s) = s
 
 abbrev pub least_of : Item → ℕ → ℕ
 least_of (One s) d = 1
 least_of (Maybe s) d = 0
 least_of (Many s) d = 0
 least_of (AtLeastOne s) d = 1
-least_of (If bit s) d = cond (bit_and d bit == 0) 0 1
+least_of (If flag s) d = cond (set_in flag d) 1 0
 
 abbrev pub most_of : Item → ℕ → ℕ
 most_of (One s) d = 1
 most_of (Maybe s) d = 1
 most_of (Many s) d = 65535
 most_of (AtLeastOne s) d = 65535
-most_of (If bit s) d = cond (bit_and d bit == 0) 0 1
+most_of (If flag s) d = cond (set_in flag d) 1 0
 
 -- whether the nodes end in `least` to `most` nodes of the set, and those before them are as `rest` says
 abbrev pub ends_in : Set → ℕ → (Nodes → Bool) → ℕ → ℕ → Nodes → Bool

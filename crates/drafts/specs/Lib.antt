@@ -1,5 +1,6 @@
 pub mod Tree
 pub mod Kinds
+pub mod Flags
 pub mod Grammar
 pub mod Table
 pub mod TextRules

@@ -1,14 +1,15 @@
 -- The rows: for each kind how many details there are, the rule of its text, and its children.
 use Rattle.std.specs.Prelude.{ℕ, List, [], ◌∷◌, Option, Some, None, slice_index_or}
 use Rattle.drafts.specs.declared.kind.Kind.TheVariants.{BindingProperty, BindingRestElement, BlockStatement, CatchClause, Decorator, Function, SwitchCase}
-use Rattle.drafts.specs.declared.row.Set.TheVariants.{Any, Only, Expression, Pattern, Statement, Target, Assigned, Element, PatternOrHole, Property, ClassElement, Link, Declarator}
+use Rattle.drafts.specs.declared.row.Set.TheVariants.{Any, Exactly, Expression, Pattern, Statement, Target, Assigned, Element, PatternOrHole, Property, ClassElement, Link, Declarator}
+use Rattle.drafts.specs.declared.row.Flag.TheVariants.{Superclass, MethodKey, FieldKey, FieldValue, Test}
 use Rattle.drafts.specs.declared.row.Item.{Item}
 use Rattle.drafts.specs.declared.row.Item.TheVariants.{One, Maybe, Many, AtLeastOne, If}
 use Rattle.drafts.specs.declared.row.TextRule.{TextRule}
-use Rattle.drafts.specs.declared.row.TextRule.TheVariants.{Empty, Name, Number, BigInt, Childless, KeyByCount, KeyByBit}
+use Rattle.drafts.specs.declared.row.TextRule.TheVariants.{Empty, Name, Number, BigInt, Childless, KeyByCount, KeyByFlag}
 use Rattle.drafts.specs.declared.row.TextRule
 use Rattle.drafts.specs.declared.row.Children.{Children}
-use Rattle.drafts.specs.declared.row.Children.TheVariants.{Of, AtLeastTwo}
+use Rattle.drafts.specs.declared.row.Children.TheVariants.{Leaf, Only, Pair, Three, AtLeastTwo}
 use Rattle.drafts.specs.declared.row.Row.{Row}
 
 -- a row by its values: the fewest children, where the items alone would allow fewer, and the items
@@ -51,7 +52,7 @@ rows =
     row 1 Empty (One Link ∷ []) ∷  -- 22 chain
     row 2 Empty (Many Any ∷ []) ∷  -- 23 call, others
     row 2 Empty (Many Any ∷ []) ∷  -- 24 function, arrow
-    row 2 Empty (If 1 Expression ∷ Many ClassElement ∷ []) ∷  -- 25 class expression
+    row 2 Empty (If Superclass Expression ∷ Many ClassElement ∷ []) ∷  -- 25 class expression
     None ∷  -- 26
     None ∷  -- 27
     None ∷  -- 28
@@ -61,16 +62,16 @@ rows =
     row 3 KeyByCount (Maybe Expression ∷ One Expression ∷ []) ∷  -- 32 property: init, get, set
     row 1 Empty (One Expression ∷ []) ∷  -- 33 object spread
     row 1 Empty (One Expression ∷ []) ∷  -- 34 decorator
-    row 2 (KeyByBit 1) (If 1 Expression ∷ Many (Only Decorator) ∷ One (Only Function) ∷ []) ∷  -- 35 method
-    row 16 (KeyByBit 4) (If 4 Expression ∷ Many (Only Decorator) ∷ If 8 Expression ∷ []) ∷  -- 36 field
+    row 2 (KeyByFlag MethodKey) (If MethodKey Expression ∷ Many (Exactly Decorator) ∷ One (Exactly Function) ∷ []) ∷  -- 35 method
+    row 16 (KeyByFlag FieldKey) (If FieldKey Expression ∷ Many (Exactly Decorator) ∷ If FieldValue Expression ∷ []) ∷  -- 36 field
     row 1 Empty (Many Statement ∷ []) ∷  -- 37 static block
     row 1 Empty (Many Any ∷ []) ∷  -- 38 destructuring target
     row 1 Empty (One Pattern ∷ Maybe Expression ∷ []) ∷  -- 39 declarator
-    row 2 Empty (If 1 Expression ∷ Many Statement ∷ []) ∷  -- 40 case
-    row 1 Empty (Maybe Pattern ∷ One (Only BlockStatement) ∷ []) ∷  -- 41 catch
+    row 2 Empty (If Test Expression ∷ Many Statement ∷ []) ∷  -- 40 case
+    row 1 Empty (Maybe Pattern ∷ One (Exactly BlockStatement) ∷ []) ∷  -- 41 catch
     row 1 Name [] ∷  -- 42 binding identifier
-    row 1 Empty (Many PatternOrHole ∷ Maybe (Only BindingRestElement) ∷ []) ∷  -- 43 array pattern
-    row 1 Empty (Many (Only BindingProperty) ∷ Maybe (Only BindingRestElement) ∷ []) ∷  -- 44 object pattern
+    row 1 Empty (Many PatternOrHole ∷ Maybe (Exactly BindingRestElement) ∷ []) ∷  -- 43 array pattern
+    row 1 Empty (Many (Exactly BindingProperty) ∷ Maybe (Exactly BindingRestElement) ∷ []) ∷  -- 44 object pattern
     row 1 Empty (One Pattern ∷ One Expression ∷ []) ∷  -- 45 default
     row 1 KeyByCount (Maybe Expression ∷ One Pattern ∷ []) ∷  -- 46 pattern property
     row 1 Empty (One Pattern ∷ []) ∷  -- 47 rest
@@ -82,13 +83,13 @@ rows =
     row 1 Empty (One Expression ∷ One Statement ∷ Maybe Statement ∷ []) ∷  -- 53 if
     row 1 Empty (One Statement ∷ []) ∷  -- 54 label
     row 1 Empty (Maybe Expression ∷ []) ∷  -- 55 return
-    row 1 Empty (One Expression ∷ Many (Only SwitchCase) ∷ []) ∷  -- 56 switch
-    two_or_more 1 Empty (One (Only BlockStatement) ∷ Maybe (Only CatchClause) ∷ Maybe (Only BlockStatement) ∷ []) ∷  -- 57 try
+    row 1 Empty (One Expression ∷ Many (Exactly SwitchCase) ∷ []) ∷  -- 56 switch
+    two_or_more 1 Empty (One (Exactly BlockStatement) ∷ Maybe (Exactly CatchClause) ∷ Maybe (Exactly BlockStatement) ∷ []) ∷  -- 57 try
     row 1 Empty [] ∷  -- 58 break, continue, empty
     row 1 Empty (Many Any ∷ []) ∷  -- 59 throw, loops, with, debugger, import, export
     row 5 Empty (AtLeastOne Declarator ∷ []) ∷  -- 60 variables: var, let, const, using, await using
     row 1 Empty (Many Any ∷ []) ∷  -- 61 function declaration
-    row 2 Empty (If 1 Expression ∷ Many ClassElement ∷ []) ∷  -- 62 class declaration
+    row 2 Empty (If Superclass Expression ∷ Many ClassElement ∷ []) ∷  -- 62 class declaration
     None ∷  -- 63
     None ∷  -- 64
     None ∷  -- 65
@@ -122,12 +123,18 @@ fewest_of None = 0
 
 -- the values of a row that the program has
 abbrev pub fewest_in : Children → ℕ
-fewest_in (Of items) = 0
-fewest_in (AtLeastTwo items) = 2
+fewest_in Leaf = 0
+fewest_in (Only a) = 0
+fewest_in (Pair a b) = 0
+fewest_in (Three a b c) = 0
+fewest_in (AtLeastTwo a b c) = 2
 
 abbrev pub items_in : Children → List Item
-items_in (Of items) = items.now
-items_in (AtLeastTwo items) = items.now
+items_in Leaf = []
+items_in (Only a) = a ∷ []
+items_in (Pair a b) = a ∷ b ∷ []
+items_in (Three a b c) = a ∷ b ∷ c ∷ []
+items_in (AtLeastTwo a b c) = a ∷ b ∷ c ∷ []
 
 abbrev pub shape_of : Row → Shape
 shape_of r = record { details = r.0; text = r.1; fewest = fewest_in r.2; items = items_in r.2 }

@@ -80,6 +80,7 @@ impl Source<'_> {
         requires { used ≤ length self.records.now }
         ensures { result ≡ sound self.entry.file.now self.entry.records.now used }
     {
+        // No `all`: whether a record stands is asked only where those before it do.
         for node in 0..used {
             let before = Waiting {
                 source: self,

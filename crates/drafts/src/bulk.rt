@@ -34,7 +34,7 @@ fn add_all(
             place: MAX_FILE,
         });
     }
-    // No `for`: where the next field begins is what `enter` answers.
+    // No `for` over the fields: `enter` reads the field itself, so that each would be read twice.
     while *place != file.len() {
         *place = enter(file, draft, table, *place)?;
     }

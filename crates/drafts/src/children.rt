@@ -41,7 +41,7 @@ impl Item {
         match self {
             Item::Maybe(_) | Item::Many(_) => 0,
             Item::One(_) | Item::AtLeastOne(_) => 1,
-            Item::If(bit, _) => { if detail & bit == 0 { 0 } else { 1 } }
+            Item::If(flag, _) => { if flag.is_set(detail) { 1 } else { 0 } }
         }
     }
 
@@ -51,7 +51,7 @@ impl Item {
         match self {
             Item::One(_) | Item::Maybe(_) => 1,
             Item::Many(_) | Item::AtLeastOne(_) => u16::MAX,
-            Item::If(bit, _) => { if detail & bit == 0 { 0 } else { 1 } }
+            Item::If(flag, _) => { if flag.is_set(detail) { 1 } else { 0 } }
         }
     }
 }
@@ -124,7 +124,7 @@ impl Subtree<'_> {
         let record = self.record();
         match set {
             Set::Any => true,
-            Set::Only(kind) => record.is(kind),
+            Set::Exactly(kind) => record.is(kind),
             Set::Expression => record.is_expression(),
             Set::Pattern => record.is_pattern(),
             Set::Statement => record.is_among(Kind::BlockStatement, Kind::ClassDeclaration),
@@ -180,8 +180,11 @@ impl Children {
         ensures { result ≡ (nat_le (fewest_in self) (many (last_nodes nodes.entry)) && allowed (items_in self) detail (last_nodes nodes.entry)) }
     {
         match self {
-            Children::Of(items) => nodes.fit(items, detail),
-            Children::AtLeastTwo(items) => nodes.count >= 2 && nodes.fit(items, detail),
+            Children::Leaf => nodes.count == 0,
+            Children::Only(a) => nodes.fit(&[a], detail),
+            Children::Pair(a, b) => nodes.fit(&[a, b], detail),
+            Children::Three(a, b, c) => nodes.fit(&[a, b, c], detail),
+            Children::AtLeastTwo(a, b, c) => nodes.count >= 2 && nodes.fit(&[a, b, c], detail),
         }
     }
 }

@@ -2,36 +2,51 @@
 
 ghost use Rattle.std.specs.Prelude.{◌≡◌, map};
 ghost use Rattle.drafts.specs.Table.{rows, shape_in, row_of};
+ghost use Rattle.drafts.specs.Flags.{set_in};
 
 use super::kind::Kind;
-use Children::{AtLeastTwo, Of};
+use Children::{AtLeastTwo, Leaf, Only, Pair, Three};
 use Item::{AtLeastOne, If, Many, Maybe, One};
 use Set::{
-    Any, Assigned, ClassElement, Declarator, Element, Expression, Link, Only, Pattern,
+    Any, Assigned, ClassElement, Declarator, Element, Exactly, Expression, Link, Pattern,
     PatternOrHole, Property, Statement, Target,
 };
 
-/// The bit of a class's detail that says that it has a superclass.
-const HAS_SUPERCLASS: u8 = 1;
+/// What a node of a kind may have or lack, as a bit of its detail says.
+#[derive(Clone, Copy, Debug, PartialEq, Eq)]
+pub enum Flag {
+    /// Of a class.
+    Superclass,
+    /// Of a method: its key is a child.
+    MethodKey,
+    /// Of a field: its key is a child.
+    FieldKey,
+    /// Of a field.
+    FieldValue,
+    /// Of a case.
+    Test,
+}
 
-/// The bit of a method's detail that says that its key is a child.
-const METHOD_HAS_KEY: u8 = 1;
-
-/// The bit of a field's detail that says that its key is a child.
-const FIELD_HAS_KEY: u8 = 4;
-
-/// The bit of a field's detail that says that it has a value.
-const FIELD_HAS_VALUE: u8 = 8;
-
-/// The bit of a case's detail that says that it has a test.
-const HAS_TEST: u8 = 1;
+impl Flag {
+    /// Whether it is set in this detail.
+    pub(crate) fn is_set(self, detail: u8) -> bool
+        ensures { result ≡ set_in self detail }
+    {
+        let bit = match self {
+            Flag::Superclass | Flag::MethodKey | Flag::Test => 1,
+            Flag::FieldKey => 4,
+            Flag::FieldValue => 8,
+        };
+        detail & bit != 0
+    }
+}
 
 /// Nodes that may stand at a place among the children.
 #[derive(Clone, Copy)]
 pub enum Set {
     Any,
     /// Nodes of this kind alone.
-    Only(Kind),
+    Exactly(Kind),
     Expression,
     Pattern,
     Statement,
@@ -59,8 +74,8 @@ pub enum Item {
     Maybe(Set),
     Many(Set),
     AtLeastOne(Set),
-    /// One exactly if the detail has this bit.
-    If(u8, Set),
+    /// One exactly if the flag is set.
+    If(Flag, Set),
 }
 
 /// The rule of a node's text.
@@ -76,17 +91,19 @@ pub enum TextRule {
     Childless,
     /// A property name, unless two children say that the first is a key.
     KeyByCount,
-    /// A property name, unless the detail has this bit.
-    KeyByBit(u8),
+    /// A property name, unless the flag is set.
+    KeyByFlag(Flag),
 }
 
-/// The children of a node, in order.
+/// The children of a node, in order. The items stand in it: a table of rows with a slice of items in each is more than Rattle's own compiler can build.
 #[derive(Clone, Copy)]
 pub enum Children {
-    /// Some for each item.
-    Of(&'static [Item]),
+    Leaf,
+    Only(Item),
+    Pair(Item, Item),
+    Three(Item, Item, Item),
     /// The same, and two children at least.
-    AtLeastTwo(&'static [Item]),
+    AtLeastTwo(Item, Item, Item),
 }
 
 /// What a node of a kind may be: how many details there are, the rule of its text, and its children.
@@ -94,196 +111,199 @@ pub enum Children {
 pub struct Row(pub u8, pub TextRule, pub Children);
 
 /// The row of each kind, from kind 0 on, or `None` where there is no such kind.
-const ROWS: &[Option<Row>] = &[
+static ROWS: [Option<Row>; 71] = [
     None,
     // 1 identifier
-    Some(Row(1, TextRule::Name, Of(&[]))),
+    Some(Row(1, TextRule::Name, Leaf)),
     // 2 null, boolean, regular expression, import.meta, new.target, super
-    Some(Row(6, TextRule::Empty, Of(&[]))),
+    Some(Row(6, TextRule::Empty, Leaf)),
     // 3 number
-    Some(Row(1, TextRule::Number, Of(&[]))),
+    Some(Row(1, TextRule::Number, Leaf)),
     // 4 BigInt
-    Some(Row(1, TextRule::BigInt, Of(&[]))),
+    Some(Row(1, TextRule::BigInt, Leaf)),
     // 5 string
-    Some(Row(1, TextRule::Any, Of(&[]))),
+    Some(Row(1, TextRule::Any, Leaf)),
     // 6 template
-    Some(Row(1, TextRule::Childless, Of(&[Many(Expression)]))),
+    Some(Row(1, TextRule::Childless, Only(Many(Expression)))),
     // 7 unary
-    Some(Row(7, TextRule::Empty, Of(&[One(Expression)]))),
+    Some(Row(7, TextRule::Empty, Only(One(Expression)))),
     // 8 update
-    Some(Row(1, TextRule::Empty, Of(&[One(Target)]))),
+    Some(Row(1, TextRule::Empty, Only(One(Target)))),
     // 9 binary
-    Some(Row(22, TextRule::Empty, Of(&[One(Expression), One(Expression)]))),
+    Some(Row(22, TextRule::Empty, Pair(One(Expression), One(Expression)))),
     // 10 logical
-    Some(Row(3, TextRule::Empty, Of(&[One(Expression), One(Expression)]))),
+    Some(Row(3, TextRule::Empty, Pair(One(Expression), One(Expression)))),
     // 11 assignment
-    Some(Row(16, TextRule::Empty, Of(&[One(Assigned), One(Expression)]))),
+    Some(Row(16, TextRule::Empty, Pair(One(Assigned), One(Expression)))),
     // 12 conditional
     Some(Row(
         1,
         TextRule::Empty,
-        Of(&[One(Expression), One(Expression), One(Expression)]),
+        Three(One(Expression), One(Expression), One(Expression)),
     )),
     // 13 sequence
-    Some(Row(1, TextRule::Empty, Of(&[AtLeastOne(Expression)]))),
+    Some(Row(1, TextRule::Empty, Only(AtLeastOne(Expression)))),
     // 14 parenthesized
-    Some(Row(1, TextRule::Empty, Of(&[One(Expression)]))),
+    Some(Row(1, TextRule::Empty, Only(One(Expression)))),
     // 15 as, satisfies, assertion, non-null, instantiation
-    Some(Row(5, TextRule::Empty, Of(&[One(Expression)]))),
+    Some(Row(5, TextRule::Empty, Only(One(Expression)))),
     // 16 array
-    Some(Row(1, TextRule::Empty, Of(&[Many(Element)]))),
+    Some(Row(1, TextRule::Empty, Only(Many(Element)))),
     // 17 object
-    Some(Row(1, TextRule::Empty, Of(&[Many(Property)]))),
+    Some(Row(1, TextRule::Empty, Only(Many(Property)))),
     // 18 static member
-    Some(Row(1, TextRule::Name, Of(&[One(Expression)]))),
+    Some(Row(1, TextRule::Name, Only(One(Expression)))),
     // 19 computed member
-    Some(Row(1, TextRule::Empty, Of(&[One(Expression), One(Expression)]))),
+    Some(Row(1, TextRule::Empty, Pair(One(Expression), One(Expression)))),
     // 20 private member
-    Some(Row(1, TextRule::Name, Of(&[One(Expression)]))),
+    Some(Row(1, TextRule::Name, Only(One(Expression)))),
     // 21 #name in
-    Some(Row(1, TextRule::Name, Of(&[One(Expression)]))),
+    Some(Row(1, TextRule::Name, Only(One(Expression)))),
     // 22 chain
-    Some(Row(1, TextRule::Empty, Of(&[One(Link)]))),
+    Some(Row(1, TextRule::Empty, Only(One(Link)))),
     // 23 call, others
-    Some(Row(2, TextRule::Empty, Of(&[Many(Any)]))),
+    Some(Row(2, TextRule::Empty, Only(Many(Any)))),
     // 24 function, arrow
-    Some(Row(2, TextRule::Empty, Of(&[Many(Any)]))),
+    Some(Row(2, TextRule::Empty, Only(Many(Any)))),
     // 25 class expression
     Some(Row(
         2,
         TextRule::Empty,
-        Of(&[If(HAS_SUPERCLASS, Expression), Many(ClassElement)]),
+        Pair(If(Flag::Superclass, Expression), Many(ClassElement)),
     )),
     None,
     None,
     None,
     None,
     // 30 spread
-    Some(Row(1, TextRule::Empty, Of(&[One(Expression)]))),
+    Some(Row(1, TextRule::Empty, Only(One(Expression)))),
     // 31 hole
-    Some(Row(1, TextRule::Empty, Of(&[]))),
+    Some(Row(1, TextRule::Empty, Leaf)),
     // 32 property: init, get, set
     Some(Row(
         3,
         TextRule::KeyByCount,
-        Of(&[Maybe(Expression), One(Expression)]),
+        Pair(Maybe(Expression), One(Expression)),
     )),
     // 33 object spread
-    Some(Row(1, TextRule::Empty, Of(&[One(Expression)]))),
+    Some(Row(1, TextRule::Empty, Only(One(Expression)))),
     // 34 decorator
-    Some(Row(1, TextRule::Empty, Of(&[One(Expression)]))),
+    Some(Row(1, TextRule::Empty, Only(One(Expression)))),
     // 35 method
     Some(Row(
         2,
-        TextRule::KeyByBit(METHOD_HAS_KEY),
-        Of(&[
-            If(METHOD_HAS_KEY, Expression),
-            Many(Only(Kind::Decorator)),
-            One(Only(Kind::Function)),
-        ]),
+        TextRule::KeyByFlag(Flag::MethodKey),
+        Three(
+            If(Flag::MethodKey, Expression),
+            Many(Exactly(Kind::Decorator)),
+            One(Exactly(Kind::Function)),
+        ),
     )),
     // 36 field
     Some(Row(
         16,
-        TextRule::KeyByBit(FIELD_HAS_KEY),
-        Of(&[
-            If(FIELD_HAS_KEY, Expression),
-            Many(Only(Kind::Decorator)),
-            If(FIELD_HAS_VALUE, Expression),
-        ]),
+        TextRule::KeyByFlag(Flag::FieldKey),
+        Three(
+            If(Flag::FieldKey, Expression),
+            Many(Exactly(Kind::Decorator)),
+            If(Flag::FieldValue, Expression),
+        ),
     )),
     // 37 static block
-    Some(Row(1, TextRule::Empty, Of(&[Many(Statement)]))),
+    Some(Row(1, TextRule::Empty, Only(Many(Statement)))),
     // 38 destructuring target
-    Some(Row(1, TextRule::Empty, Of(&[Many(Any)]))),
+    Some(Row(1, TextRule::Empty, Only(Many(Any)))),
     // 39 declarator
-    Some(Row(1, TextRule::Empty, Of(&[One(Pattern), Maybe(Expression)]))),
+    Some(Row(1, TextRule::Empty, Pair(One(Pattern), Maybe(Expression)))),
     // 40 case
     Some(Row(
         2,
         TextRule::Empty,
-        Of(&[If(HAS_TEST, Expression), Many(Statement)]),
+        Pair(If(Flag::Test, Expression), Many(Statement)),
     )),
     // 41 catch
     Some(Row(
         1,
         TextRule::Empty,
-        Of(&[Maybe(Pattern), One(Only(Kind::BlockStatement))]),
+        Pair(Maybe(Pattern), One(Exactly(Kind::BlockStatement))),
     )),
     // 42 binding identifier
-    Some(Row(1, TextRule::Name, Of(&[]))),
+    Some(Row(1, TextRule::Name, Leaf)),
     // 43 array pattern
     Some(Row(
         1,
         TextRule::Empty,
-        Of(&[Many(PatternOrHole), Maybe(Only(Kind::BindingRestElement))]),
+        Pair(
+            Many(PatternOrHole),
+            Maybe(Exactly(Kind::BindingRestElement)),
+        ),
     )),
     // 44 object pattern
     Some(Row(
         1,
         TextRule::Empty,
-        Of(&[
-            Many(Only(Kind::BindingProperty)),
-            Maybe(Only(Kind::BindingRestElement)),
-        ]),
+        Pair(
+            Many(Exactly(Kind::BindingProperty)),
+            Maybe(Exactly(Kind::BindingRestElement)),
+        ),
     )),
     // 45 default
-    Some(Row(1, TextRule::Empty, Of(&[One(Pattern), One(Expression)]))),
+    Some(Row(1, TextRule::Empty, Pair(One(Pattern), One(Expression)))),
     // 46 pattern property
     Some(Row(
         1,
         TextRule::KeyByCount,
-        Of(&[Maybe(Expression), One(Pattern)]),
+        Pair(Maybe(Expression), One(Pattern)),
     )),
     // 47 rest
-    Some(Row(1, TextRule::Empty, Of(&[One(Pattern)]))),
+    Some(Row(1, TextRule::Empty, Only(One(Pattern)))),
     None,
     None,
     // 50 block
-    Some(Row(1, TextRule::Empty, Of(&[Many(Statement)]))),
+    Some(Row(1, TextRule::Empty, Only(Many(Statement)))),
     // 51 expression statement
-    Some(Row(1, TextRule::Empty, Of(&[One(Expression)]))),
+    Some(Row(1, TextRule::Empty, Only(One(Expression)))),
     // 52 while, do
-    Some(Row(2, TextRule::Empty, Of(&[One(Expression), One(Statement)]))),
+    Some(Row(2, TextRule::Empty, Pair(One(Expression), One(Statement)))),
     // 53 if
     Some(Row(
         1,
         TextRule::Empty,
-        Of(&[One(Expression), One(Statement), Maybe(Statement)]),
+        Three(One(Expression), One(Statement), Maybe(Statement)),
     )),
     // 54 label
-    Some(Row(1, TextRule::Empty, Of(&[One(Statement)]))),
+    Some(Row(1, TextRule::Empty, Only(One(Statement)))),
     // 55 return
-    Some(Row(1, TextRule::Empty, Of(&[Maybe(Expression)]))),
+    Some(Row(1, TextRule::Empty, Only(Maybe(Expression)))),
     // 56 switch
     Some(Row(
         1,
         TextRule::Empty,
-        Of(&[One(Expression), Many(Only(Kind::SwitchCase))]),
+        Pair(One(Expression), Many(Exactly(Kind::SwitchCase))),
     )),
     // 57 try
     Some(Row(
         1,
         TextRule::Empty,
-        AtLeastTwo(&[
-            One(Only(Kind::BlockStatement)),
-            Maybe(Only(Kind::CatchClause)),
-            Maybe(Only(Kind::BlockStatement)),
-        ]),
+        AtLeastTwo(
+            One(Exactly(Kind::BlockStatement)),
+            Maybe(Exactly(Kind::CatchClause)),
+            Maybe(Exactly(Kind::BlockStatement)),
+        ),
     )),
     // 58 break, continue, empty
-    Some(Row(1, TextRule::Empty, Of(&[]))),
+    Some(Row(1, TextRule::Empty, Leaf)),
     // 59 throw, loops, with, debugger, import, export
-    Some(Row(1, TextRule::Empty, Of(&[Many(Any)]))),
+    Some(Row(1, TextRule::Empty, Only(Many(Any)))),
     // 60 variables: var, let, const, using, await using
-    Some(Row(5, TextRule::Empty, Of(&[AtLeastOne(Declarator)]))),
+    Some(Row(5, TextRule::Empty, Only(AtLeastOne(Declarator)))),
     // 61 function declaration
-    Some(Row(1, TextRule::Empty, Of(&[Many(Any)]))),
+    Some(Row(1, TextRule::Empty, Only(Many(Any)))),
     // 62 class declaration
     Some(Row(
         2,
         TextRule::Empty,
-        Of(&[If(HAS_SUPERCLASS, Expression), Many(ClassElement)]),
+        Pair(If(Flag::Superclass, Expression), Many(ClassElement)),
     )),
     None,
     None,
@@ -293,7 +313,7 @@ const ROWS: &[Option<Row>] = &[
     None,
     None,
     // 70 TypeScript-only declaration
-    Some(Row(1, TextRule::Empty, Of(&[]))),
+    Some(Row(1, TextRule::Empty, Leaf)),
 ];
 
 /// The rows.
@@ -301,9 +321,10 @@ const ROWS: &[Option<Row>] = &[
 fn rows() -> &'static [Option<Row>]
     ensures { map shape_in result.now ≡ rows }
 {
-    ROWS
+    &ROWS
 }
 
+// It takes a number: by `Kind` each node that is checked would first be looked for among the kinds, and then among their rows.
 /// The row of a kind, if there is such a kind.
 #[inline(always)]
 pub fn row_of(kind: u8) -> Option<Row>

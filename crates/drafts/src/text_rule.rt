@@ -34,11 +34,11 @@ impl TextRule {
                     is_utf8(text)
                 }
             }
-            TextRule::KeyByBit(bit) => {
-                if node.detail & bit == 0 {
-                    is_utf8(text)
-                } else {
+            TextRule::KeyByFlag(flag) => {
+                if flag.is_set(node.detail) {
                     text.is_empty()
+                } else {
+                    is_utf8(text)
                 }
             }
         }

@@ -84,6 +84,7 @@ impl<'a> Waiting<'a> {
         ensures { MatchOption result (many (waits self.entry.source self.entry.end) < count) (LastOf self.entry count) }
     {
         let mut before = self;
+        // No `nth`: it would not say whether fewer wait, or none behind them.
         for _ in 0..count {
             before.next()?;
         }

@@ -4,7 +4,7 @@ use super::samples::{FAULTS, HOLE, HOOK, hook_table, record, strange, told};
 use drafts::{Opened, Record, add, line_count, open_all};
 use std::process::Abort;
 
-/// How many nodes were added, the place where it ended, and the refusal's number and place, twice 0 for none.
+/// How many nodes were added, the place where it ended, and the refusal's number and place, twice 0 for none; see `told`.
 type End = (u16, usize, (u8, usize));
 
 /// Opens a draft of the fields from `place` on, and answers how it ended.

@@ -41,6 +41,7 @@ fn one_number_of_a_record(rt: HostRuntime) {
     for node in 0..5usize {
         for field in 0..6u8 {
             let mut table = hook_table();
+            // one arm for each field: six closures in an array would be as long
             match field {
                 0 => table[node].place = 1,
                 1 => table[node].kind ^= 1,

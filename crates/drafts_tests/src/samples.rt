@@ -53,7 +53,7 @@ pub fn hook_table() -> [Record; 8] {
     ]
 }
 
-/// 0 and the answer, or the refusal's number and place: the numbers are the format's, which the tests are to state.
+/// 0 and the answer, or the refusal's number and place. `Err(Refusal { reason: Reason::BadChildren, place: 17 })` for `(6, 17)` would make the tables of cases no plainer.
 pub fn told(answer: Result<usize, Refusal>) -> (u8, usize) {
     match answer {
         Ok(next) => (0, next),

@@ -2,4 +2,3 @@ pub mod Records
 pub mod Gatherings
 pub mod Naming
 pub mod Makings
-pub mod Loosenings

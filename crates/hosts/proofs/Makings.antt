@@ -1,5 +1,5 @@
 -- A host is what the fields before the first node say.
-use Rattle.std.proofs.Common.{◌≡◌, ℕ, zero, suc, ◌-◌, ◌≤◌, Bool, true, false, cond, ◌&&◌, eqb, ltb, List, [], ◌∷◌, ◌++◌, length, Ok, Err, Result, sym, refl, ap, ◌∙◌, subst, inl, inr, append_assoc, arith, eqb-true}
+use Rattle.std.proofs.Common.{◌≡◌, ℕ, zero, suc, ◌-◌, ◌≤◌, Bool, true, false, cond, ◌&&◌, eqb, ltb, List, [], ◌∷◌, ◌++◌, length, Ok, Err, Result, sym, refl, ap, ◌∙◌, subst, inl, inr, append_assoc, append-nil, arith, eqb-true}
 use Rattle.packed.specs.declared.field.Scope.{Scope}
 use Rattle.packed.specs.declared.refusal.Reason.{Reason}
 use Rattle.packed.specs.declared.refusal.Reason.TheVariants.{BadText}
@@ -24,12 +24,8 @@ pub record Tells (g : Gathered) (t : Told) (more : Gathered) : Type 0 where
 abbrev pub Faithful : (Gathered → Told → Result Gathered Reason) → Type 0
 Faithful takes = (g : Gathered) (t : Told) (more : Gathered) → takes g t ≡ Ok more → Tells g t more
 
-append_none : {A : Type 0} (xs : List A) → xs ++ [] ≡ xs
-append_none [] = refl
-append_none (x ∷ xs) = ap (λ ys. x ∷ ys) (append_none xs)
-
 untold : (g : Gathered) (t : Told) (more : Gathered) → scoped t [] ≡ [] → more.scopes ≡ g.scopes → more.switches ≡ switched t g.switches → Tells g t more
-untold g t more n s w = record { scopes = rw n (s ∙ sym (append_none g.scopes)); switches = w }
+untold g t more n s w = record { scopes = rw n (s ∙ sym (append-nil g.scopes)); switches = w }
 
 added_is : (limit : ℕ) (scopes more : List Scope) (s : Scope) → scope_added limit scopes s ≡ Ok more → more ≡ scopes ++ s ∷ []
 added_is limit scopes more s h =
@@ -60,7 +56,7 @@ name_faithful g (scope s) more h = absurd (no_err _ more h)
 name_faithful g (switch s) more h = subst (Tells g (switch s)) (ok_same _ more h) (untold g (switch s) _ refl refl refl)
 name_faithful g (name text) more h =
     recorded g (name text) more refl (cond (ltb 0 (length text) && utf8 text) (Ok g.scopes) (Err BadText))
-    (λ scopes e. sym (ok_same g.scopes scopes (pass (ltb 0 (length text) && utf8 text) _ _ scopes e).1) ∙ sym (append_none g.scopes)) h
+    (λ scopes e. sym (ok_same g.scopes scopes (pass (ltb 0 (length text) && utf8 text) _ _ scopes e).1) ∙ sym (append-nil g.scopes)) h
 name_faithful g (other tag payload) more h = absurd (refused_field (eqb tag 3) _ _ more h)
 
 -- the fields that were gathered from p on
@@ -84,7 +80,7 @@ module _ (takes : Gathered → Told → Result Gathered Reason) (faith : Faithfu
   stay p g more q e h =
       let same : (g, p) ≡ (more, q) = ok_same _ _ h in
       subst (λ (a : Gathered × ℕ). From file p g a.0 a.1) same
-      (record { fields = []; stand = none p; ends = e; scopes = sym (append_none g.scopes); switches = refl })
+      (record { fields = []; stand = none p; ends = e; scopes = sym (append-nil g.scopes); switches = refl })
 
   go_on : (p : ℕ) (g : Gathered) (t : Told) (next : ℕ) (mid more : Gathered) (q : ℕ) → read_at file p ≡ Ok (t, next) → has_node_tag t ≡ false →
       takes g t ≡ Ok mid → From file next mid more q → From file p g more q

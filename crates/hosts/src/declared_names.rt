@@ -7,7 +7,7 @@ ghost use Rattle.hosts.specs.NameMeaning.{declared, names_left};
 use packed::{Field, Fields};
 
 /// The names that the fields before `end` declare, in order; none comes from behind a field that cannot be read.
-#[derive(Clone, Copy)]
+#[derive(Drop)]
 pub(crate) struct DeclaredNames<'a> {
     fields: Fields<'a>,
     end: usize,
@@ -33,6 +33,7 @@ impl<'a> Iterator for DeclaredNames<'a> {
     ghost remaining = { item_count names_left };
 
     fn next(&mut self) -> Option<&'a [u8]> {
+        // A chain of adapters would stand twice, where names are counted and where one is looked for, as no function can answer `impl Iterator`.
         while let Some(field) = self.fields.next() {
             match field {
                 Ok((place, Field::Name(name))) if place < self.end => return Some(name),

@@ -23,7 +23,7 @@ pub struct NameHost<'a> {
     switches: Switches,
 }
 
-/// The fields that may declare a name: of declared names, only their text matters while they are gathered.
+/// The declarations of names: each is checked as it comes, and none is kept, since the file has them.
 #[derive(Clone, Copy)]
 struct Declarations;
 
@@ -86,6 +86,7 @@ impl<'a> GlobalContext for NameHost<'a> {
     }
 }
 
+// A table host has the same two methods: a generic host over both would be longer than what it saves.
 impl<'a> MayHaveSideEffectsContext for NameHost<'a> {
     fn switches(&self) -> Switches {
         self.switches

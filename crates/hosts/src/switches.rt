@@ -39,6 +39,7 @@ impl Switches {
         }
     }
 
+    // A method and no `From` of a flag, since callers have it.
     /// Whether property reads count as effects.
     pub fn property_reads(self) -> PropertyReadSideEffects
         ensures { result ≡ reads_of self }

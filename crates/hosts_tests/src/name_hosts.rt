@@ -1,23 +1,14 @@
 //! Making a name host, and what it answers.
 
-use super::samples::{check_answers, told};
+use super::samples::{Made, check_answers, made};
 use hosts::NameHost;
 use std::alloc::{AllocError, Global};
 use std::process::Abort;
 use std::test::Fail;
 
-/// 0, the place answered and how many names there are; or the refusal's number and place, and 0.
-type Made = (u8, usize, usize);
-
-/// Makes the name host of a file.
+/// Makes the name host of a file, and answers how many names it has.
 fn make(file: &[u8]) -> Made {
-    match NameHost::make(file) {
-        Ok((host, place)) => (0, place, host.names()),
-        Err(refusal) => {
-            let (number, place) = told(refusal);
-            (number, place, 0)
-        }
-    }
+    made(NameHost::make(file).map(|(host, place)| (place, host.names())))
 }
 
 /// Checks that the name host of a file holds so many names, declares the first and not the others, whatever their references are, and knows no type.

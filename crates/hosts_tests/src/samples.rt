@@ -33,9 +33,23 @@ pub fn memory(heap: Global, records: usize) -> Result<Vec<Scope>, AllocError> {
     Ok(memory)
 }
 
-/// The refusal's number and place.
+/// The refusal's number and place. `Refusal { reason: Reason::BadScope, place: 7 }` for `(13, 7)` would make the tables of cases no plainer.
 pub fn told(refusal: Refusal) -> (u8, usize) {
     (refusal.reason.number(), refusal.place)
+}
+
+/// 0, the place answered and how much the host holds; or the refusal's number and place, and 0. They are numbers for the reason that `told` gives.
+pub type Made = (u8, usize, usize);
+
+/// What making a host gave: the place answered and how much the host holds, or the refusal.
+pub fn made(answer: Result<(usize, usize), Refusal>) -> Made {
+    match answer {
+        Ok((place, held)) => (0, place, held),
+        Err(refusal) => {
+            let (number, place) = told(refusal);
+            (number, place, 0)
+        }
+    }
 }
 
 /// What a host answers of a name and a reference: whether it is outer, and the number of its type.

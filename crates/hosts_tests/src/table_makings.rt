@@ -1,6 +1,6 @@
 //! Making a table host, and how it is refused.
 
-use super::samples::{ask, joined, memory, told};
+use super::samples::{Made, ask, joined, made, memory};
 use hosts::TableHost;
 use packed::{Scope, ValueType};
 use std::alloc::{AllocError, Global};
@@ -14,18 +14,10 @@ const RECORD: &[u8; 7] = b"\x02\x00\x04\x01\x01\x00\x00";
 const THREE: &[u8; 21] =
     b"\x02\x00\x04\x00\x02\x00\x00\x02\x00\x04\x00\x05\x00\x00\x02\x00\x04\x00\x09\x00\x00";
 
-/// 0, the place answered and how many records there are; or the refusal's number and place, and 0.
-type Made = (u8, usize, usize);
-
-/// Makes the table host of a file, with room for so many records.
+/// Makes the table host of a file, with room for so many records, and answers how many it has.
 fn make(heap: Global, file: &[u8], room: usize) -> Result<Made, AllocError> {
-    match TableHost::make(file, memory(heap, room)?) {
-        Ok((host, place)) => Ok((0, place, host.records())),
-        Err(refusal) => {
-            let (number, place) = told(refusal);
-            Ok((number, place, 0))
-        }
-    }
+    let answer = TableHost::make(file, memory(heap, room)?);
+    Ok(made(answer.map(|(host, place)| (place, host.records()))))
 }
 
 /// Checks what making a table host of these fields gives, each time with other fields behind them.

@@ -3,15 +3,9 @@
 #![tactic(auto)]
 
 use drafts::Record;
-use marking::read_hook;
+use marking::{NODES, SCOPES, read_hook};
 use std::io;
 use std::io::Read;
-
-/// How many nodes the program holds.
-const NODES: usize = 2048;
-
-/// How many scope records it holds.
-const SCOPES: usize = 1024;
 
 fn main(rt: HostRuntime) -> io::Result<()> {
     let heap = rt.alloc();

@@ -5,15 +5,9 @@
 use anyhow::anyhow;
 use drafts::Record;
 use hex::FromHexError;
-use marking::read_hook;
+use marking::{NODES, SCOPES, read_hook};
 use std::alloc::{AllocError, Global};
 use std::io::{BufRead, BufReader};
-
-/// How many nodes `mark` holds.
-const NODES: usize = 2048;
-
-/// How many scope records it holds.
-const SCOPES: usize = 1024;
 
 /// The bytes that hexadecimal digits write; spaces are passed over.
 fn bytes_of(heap: Global, text: &str) -> anyhow::Result<Vec<u8>> {

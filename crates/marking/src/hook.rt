@@ -8,6 +8,12 @@ use drafts::{Record, line_count, open_all};
 use packed::{Refusal, Scope};
 use std::fmt;
 
+/// How many nodes a program holds.
+pub const NODES: usize = 2048;
+
+/// How many scope records a program holds.
+pub const SCOPES: usize = 1024;
+
 /// How many nodes and lines a hook has, and which host.
 #[derive(Clone, Copy, Debug, PartialEq, Eq)]
 pub struct Report {

@@ -7,5 +7,5 @@ mod hook;
 mod host;
 
 pub use choice::{HostKind, host_kind};
-pub use hook::{Report, read_hook};
+pub use hook::{NODES, Report, SCOPES, read_hook};
 pub use host::{HostReport, read_host};

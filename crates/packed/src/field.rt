@@ -58,6 +58,7 @@ impl Field<'_> {
     }
 }
 
+// The tag is a number here too, since `Other` keeps an unknown one.
 #[inline(always)]
 fn field_of(tag: u8, payload: &[u8]) -> Field<'_>
     ensures { told result ≡ field_of tag payload.now }

@@ -8,7 +8,7 @@ use super::field::{Field, read_field};
 use super::refusal::Refusal;
 
 /// Fields, each with the place where it begins, up to the end of the file; behind a refusal comes nothing.
-#[derive(Clone, Copy)]
+#[derive(Clone, Drop)]
 pub struct Fields<'a> {
     file: &'a [u8],
     /// Where the next field begins.

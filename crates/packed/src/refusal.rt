@@ -31,6 +31,7 @@ pub enum Reason {
 }
 
 impl Reason {
+    // A method and no `From`, since callers have it.
     /// The number of the reason in the format.
     pub fn number(self) -> u8
         ensures { result ≡ number_of self }

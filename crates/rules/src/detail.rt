@@ -12,6 +12,7 @@ pub(crate) trait Detail: Copy + 'static {
         ensures { result.now ≡ values };
 }
 
+// No `TryFrom` for each of them: its error would be one type more, and `Kind` makes its own of a `None`.
 /// The value of this number among those listed, from 0 on.
 pub(crate) fn nth<T: Copy>(number: u8, values: &[T]) -> Option<T>
     ensures { result ≡ slice_get values.now number }
@@ -261,6 +262,7 @@ pub struct Modifiers {
 }
 
 impl Modifiers {
+    // An Option like the other details: an error would say no more than `None` does.
     /// The ones that this number in the format is the sum of: 1 if the field is static, 2 for an accessor, 4 with a key child, 8 with a value child.
     pub(crate) fn of_number(number: u8) -> Option<Modifiers>
         ensures { result ≡ modifiers_of number }

@@ -86,7 +86,7 @@ pub enum Kind {
     ClassDeclaration(bool),
 }
 
-// Here the numbers of the format become kinds, and nowhere else: a second enum of the same kinds in their place would be no plainer.
+// Here the numbers of the format become kinds. By an enum of the bare kinds each arm would name its kind twice, as `Identifier => nth(detail, &[Kind::Identifier])`.
 impl Kind {
     /// A name or a literal.
     fn primary(kind: u8, detail: u8) -> Option<Kind>

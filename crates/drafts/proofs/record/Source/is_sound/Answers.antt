@@ -1,7 +1,7 @@
 use Rattle.std.proofs.Common.{◌∙◌, ap, arith}
 use Rattle.drafts.specs.Tree.{SpannedIn}
 use Rattle.drafts.specs.Added.{stands}
-use Rattle.drafts.proofs.Standing.{spanned, sound_not, sound_more}
+use Rattle.drafts.proofs.Standing.{spanned, sound_not}
 use Rattle.drafts.proofs.record.Source.is_sound.Goals as goal
 
 pub invariant_of-before : goal.invariant_of-before
