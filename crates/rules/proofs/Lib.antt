@@ -1,0 +1,5 @@
+pub mod Looser
+pub mod Evidence
+pub mod ByKind
+pub mod Acts
+pub mod Effects
