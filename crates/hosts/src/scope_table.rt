@@ -18,7 +18,7 @@ pub struct ScopeTable {
 impl Ascending for ScopeTable {
     type Entry = Scope;
 
-    ghost key = { λ s. s.reference ∷ [] };
+    ghost key = { λ _ s. s.reference ∷ [] };
 
     ghost keys = { λ t. scope_keys t.records.items };
 
@@ -32,7 +32,7 @@ impl Ascending for ScopeTable {
 impl OrderedTable<u16> for ScopeTable {
     ghost sought = { λ n. n ∷ [] };
 
-    fn compare(entry: &Scope, key: u16) -> Ordering {
+    fn compare(&self, entry: &Scope, key: u16) -> Ordering {
         entry.reference.cmp(&key)
     }
 }

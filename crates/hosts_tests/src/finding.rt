@@ -16,7 +16,7 @@ struct AtMostOne {
 impl Ascending for AtMostOne {
     type Entry = u16;
 
-    ghost key = { λ n. n ∷ [] };
+    ghost key = { λ _ n. n ∷ [] };
 
     ghost keys = { λ t. cond t.has_entry ((9 ∷ []) ∷ []) [] };
 
@@ -30,7 +30,7 @@ impl Ascending for AtMostOne {
 impl OrderedTable<u16> for AtMostOne {
     ghost sought = { λ n. n ∷ [] };
 
-    fn compare(entry: &u16, key: u16) -> Ordering {
+    fn compare(&self, entry: &u16, key: u16) -> Ordering {
         entry.cmp(&key)
     }
 }
@@ -44,7 +44,7 @@ struct Numbers;
 impl Ascending for Numbers {
     type Entry = u16;
 
-    ghost key = { λ n. n ∷ [] };
+    ghost key = { λ _ n. n ∷ [] };
 
     ghost keys = { λ _. (3 ∷ []) ∷ ((7 ∷ []) ∷ ((8 ∷ []) ∷ ((300 ∷ []) ∷ ((301 ∷ []) ∷ ((40000 ∷ []) ∷ []))))) };
 
@@ -58,7 +58,7 @@ impl Ascending for Numbers {
 impl OrderedTable<u16> for Numbers {
     ghost sought = { λ n. n ∷ [] };
 
-    fn compare(entry: &u16, key: u16) -> Ordering {
+    fn compare(&self, entry: &u16, key: u16) -> Ordering {
         entry.cmp(&key)
     }
 }
@@ -72,7 +72,7 @@ struct Names;
 impl Ascending for Names {
     type Entry = &'static str;
 
-    ghost key = { λ n. n.now };
+    ghost key = { λ _ n. n.now };
 
     ghost keys = { λ _. codes "a" ∷ (codes "ab" ∷ (codes "b" ∷ (codes "ba" ∷ []))) };
 
@@ -86,7 +86,7 @@ impl Ascending for Names {
 impl<'a> OrderedTable<&'a str> for Names {
     ghost sought = { λ k. k.now };
 
-    fn compare(entry: &&'static str, key: &'a str) -> Ordering {
+    fn compare(&self, entry: &&'static str, key: &'a str) -> Ordering {
         (*entry).cmp(&key)
     }
 }

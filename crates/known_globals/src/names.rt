@@ -18,7 +18,7 @@ pub struct Names {
 impl Ascending for Names {
     type Entry = &'static str;
 
-    ghost key = { λ n. n.now };
+    ghost key = { λ _ n. n.now };
 
     ghost keys = { λ t. map (λ n. n.now) t.names.now };
 
@@ -32,7 +32,7 @@ impl Ascending for Names {
 impl<'a> OrderedTable<&'a str> for Names {
     ghost sought = { λ k. k.now };
 
-    fn compare(entry: &&'static str, key: &'a str) -> Ordering {
+    fn compare(&self, entry: &&'static str, key: &'a str) -> Ordering {
         (*entry).cmp(&key)
     }
 }

@@ -10,15 +10,15 @@ pub trait Ascending {
     /// What it has under each key.
     type Entry;
 
-    /// The key of an entry.
-    ghost key: { Self.Entry → List ℕ };
+    /// The key of an entry in the table.
+    ghost key: { Self → Self.Entry → List ℕ };
 
     /// The keys of the entries, in their order.
     ghost keys: { Self → List (List ℕ) };
 
     /// The entries, in their order.
     fn entries(&self) -> &[Self::Entry]
-        ensures { map key result.now ≡ keys self.now };
+        ensures { map (key self.now) result.now ≡ keys self.now };
 
     ghost ascent: { (t : Self) → ascends (keys t) ≡ true };
 }
@@ -29,8 +29,8 @@ pub trait OrderedTable<K>: Ascending {
     ghost sought: { K → List ℕ };
 
     /// The key of the entry against the wanted one.
-    fn compare(entry: &Self::Entry, key: K) -> Ordering
-        ensures { result ≡ order (Self.Ascending.key entry.now) (sought key) };
+    fn compare(&self, entry: &Self::Entry, key: K) -> Ordering
+        ensures { result ≡ order (Self.Ascending.key self.now entry.now) (sought key) };
 }
 
 /// Where the wanted key stands in the table.
@@ -40,6 +40,6 @@ pub fn find<K: Copy, T: OrderedTable<K>>(table: &T, key: K) -> Option<usize>
 {
     table
         .entries()
-        .binary_search_by(|entry| T::compare(entry, key))
+        .binary_search_by(|entry| table.compare(entry, key))
         .ok()
 }

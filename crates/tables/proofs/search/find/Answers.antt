@@ -6,7 +6,7 @@ use Rattle.tables.proofs.search.find.Goals as goal
 
 pub returns : goal.returns
 returns g c =
-    let key = g.T.Ascending.key in
+    let key = g.T.Ascending.key c.args.table.now in
     let ks = g.T.Ascending.keys c.args.table.now in
     let up = g.met.T.Ascending.ascent c.args.table.now in
     let k = g.T.OrderedTable.sought c.args.key in
