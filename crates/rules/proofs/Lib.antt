@@ -3,3 +3,4 @@ pub mod Evidence
 pub mod ByKind
 pub mod Acts
 pub mod Effects
+pub mod Edges

@@ -6,3 +6,4 @@ pub mod Primitives
 pub mod ValueTypes
 pub mod Effects
 pub mod Laws
+pub mod Edges
