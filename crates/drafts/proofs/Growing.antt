@@ -1,5 +1,6 @@
 -- The trees of records that stand.
-use Rattle.std.proofs.Common.{◌≡◌, ℕ, zero, suc, ◌-◌, ◌<◌, ◌≤◌, Bool, true, false, ◌&&◌, leb, List, set, sym, refl, ap, ◌∙◌, arith, leb-true}
+use Rattle.std.proofs.Common.{◌≡◌, ℕ, zero, suc, ◌-◌, ◌<◌, ◌≤◌, true, leb, List, set, sym, refl, ap, ◌∙◌, arith, leb-true}
+use Rattle.std.proofs.lemmas.Bool.{and_from, and_parts}
 use Rattle.drafts.specs.declared.record.Record.{Record}
 use Rattle.drafts.specs.Tree.{Nodes, none, ◌▸◌, many, last_of, before_of, at, text_at, header_of, grown, waiting, tree, Spanned}
 use Rattle.drafts.specs.Table.{row_of, text_of}
@@ -10,7 +11,7 @@ use Rattle.drafts.specs.Trees.{shaped, obeys, all_obey, walked, TreesStand}
 use Rattle.drafts.proofs.Places.{all_wait, layout, some_wait, spanned_less, span_fits, many_step}
 use Rattle.drafts.proofs.Walks.{many_last}
 use Rattle.drafts.proofs.Entering.{Taken}
-use Rattle.drafts.proofs.Standing.{and_left, and_right, spanned, stands_taken, sound_at}
+use Rattle.drafts.proofs.Standing.{spanned, stands_taken, sound_at}
 use Rattle.drafts.proofs.Leaving.{adds_parts, waited, others, left_sound}
 
 -- the walk back over spans finds the last k nodes that wait
@@ -45,53 +46,49 @@ leads_keep file rs n new m (further {new = old} {m = k} l p a e) i h =
 
 -- every tree obeys the grammar
 
-and_both : (a b : Bool) → a ≡ true → b ≡ true → (a && b) ≡ true
-and_both true b h k = k
-and_both false b h k = h
-
 obey_last : (k : ℕ) (ns : Nodes) → all_obey ns ≡ true → all_obey (last_of k ns) ≡ true
 obey_last zero ns h = refl
 obey_last (suc k) none h = refl
 obey_last (suc k) (ns ▸ n) h =
-    and_both (all_obey (last_of k ns)) (obeys n) (obey_last k ns (and_left (all_obey ns) (obeys n) h)) (and_right (all_obey ns) (obeys n) h)
+    and_from (all_obey (last_of k ns)) (obeys n) (obey_last k ns ((and_parts (all_obey ns) (obeys n) h).0)) ((and_parts (all_obey ns) (obeys n) h).1)
 
 obey_before : (k : ℕ) (ns : Nodes) → all_obey ns ≡ true → all_obey (before_of k ns) ≡ true
 obey_before zero ns h = h
 obey_before (suc k) none h = refl
-obey_before (suc k) (ns ▸ n) h = obey_before k ns (and_left (all_obey ns) (obeys n) h)
+obey_before (suc k) (ns ▸ n) h = obey_before k ns ((and_parts (all_obey ns) (obeys n) h).0)
 
 module _ (file : List ℕ) (ws : Nodes) (n p : ℕ) (r : Record) (q : ℕ) (t : Taken file ws n p r q) where
   enough : r.count ≤ many ws
-  enough = leb-true _ _ (and_left (leb r.count (many ws)) (allowed r.kind r.detail (last_of r.count ws)) t.fit)
+  enough = leb-true _ _ ((and_parts (leb r.count (many ws)) (allowed r.kind r.detail (last_of r.count ws)) t.fit).0)
 
   node_shaped : shaped (header_of file r) (last_of r.count ws) ≡ true
   node_shaped =
       let texts : text_fits (text_of (row_of r.kind)) r.detail (many (last_of r.count ws)) (text_at file r.place) ≡ true =
       rw (many_last r.count ws enough, t.placed) t.reads in
       let children : allowed r.kind r.detail (last_of r.count ws) ≡ true =
-      and_right (leb r.count (many ws)) (allowed r.kind r.detail (last_of r.count ws)) t.fit in
+      (and_parts (leb r.count (many ws)) (allowed r.kind r.detail (last_of r.count ws)) t.fit).1 in
       rw (t.knows, t.spares, texts) children
 
   pub grown_obeys : all_obey ws ≡ true → obeys (grown file r ws) ≡ true
   grown_obeys h =
-      and_both (shaped (header_of file r) (last_of r.count ws)) (all_obey (last_of r.count ws)) node_shaped (obey_last r.count ws h)
+      and_from (shaped (header_of file r) (last_of r.count ws)) (all_obey (last_of r.count ws)) node_shaped (obey_last r.count ws h)
 
 waiting_obey : (file : List ℕ) (rs : List Record) (n : ℕ) → sound file rs n ≡ true → all_obey (waiting file rs n) ≡ true
 waiting_obey file rs zero s = refl
 waiting_obey file rs (suc n) s =
-    let before = waiting_obey file rs n (and_left (sound file rs n) (stands file rs n) s) in
-    and_both (all_obey (before_of (at rs n).count (waiting file rs n))) (obeys (tree file rs n)) (obey_before (at rs n).count (waiting file rs n) before)
-    (grown_obeys file (waiting file rs n) n _ (at rs n) _ (stands_taken file rs n (and_right (sound file rs n) (stands file rs n) s)) before)
+    let before = waiting_obey file rs n ((and_parts (sound file rs n) (stands file rs n) s).0) in
+    and_from (all_obey (before_of (at rs n).count (waiting file rs n))) (obeys (tree file rs n)) (obey_before (at rs n).count (waiting file rs n) before)
+    (grown_obeys file (waiting file rs n) n _ (at rs n) _ (stands_taken file rs n ((and_parts (sound file rs n) (stands file rs n) s).1)) before)
 
 sound_less : (file : List ℕ) (rs : List Record) (n : ℕ) → sound file rs n ≡ true → (i : ℕ) → i ≤ n → sound file rs i ≡ true
 sound_less file rs n s zero h = refl
 sound_less file rs n s (suc i) h =
-    and_both (sound file rs i) (stands file rs i) (sound_less file rs n s i (omega arith)) (sound_at file rs n i s (omega arith))
+    and_from (sound file rs i) (stands file rs i) (sound_less file rs n s i (omega arith)) (sound_at file rs n i s (omega arith))
 
 tree_obeys : (file : List ℕ) (rs : List Record) (n : ℕ) → sound file rs n ≡ true → (i : ℕ) → i < n → obeys (tree file rs i) ≡ true
 tree_obeys file rs n s i h =
     let w = waiting_obey file rs (suc i) (sound_less file rs n s (suc i) h) in
-    and_right (all_obey (before_of (at rs i).count (waiting file rs i))) (obeys (tree file rs i)) w
+    (and_parts (all_obey (before_of (at rs i).count (waiting file rs i))) (obeys (tree file rs i)) w).1
 
 pub trees_stand : (file : List ℕ) → TreesStand file
 trees_stand file =

@@ -1,5 +1,6 @@
 -- The records that accepted adds leave are those that stand.
 use Rattle.std.proofs.Common.{◌≡◌, ℕ, zero, suc, ◌+◌, ◌<◌, ◌≤◌, Bool, true, false, cond, not, ◌&&◌, eqb, ltb, leb, ◌≢◌, List, length, set, Ok, Err, Result, sym, refl, ap, ◌∙◌, subst, add-one, arith, length-set, get_or-set_other, get_or-set_same, ltb-true, lt-ltb, le-leb, leb-true}
+use Rattle.std.proofs.lemmas.Bool.{and_parts}
 use lib.Seq.{set-get_or}
 use Rattle.packed.specs.declared.refusal.Refusal.{Refusal}
 use Rattle.packed.specs.declared.refusal.Reason.{Reason}
@@ -14,7 +15,7 @@ use Rattle.drafts.specs.TextRules.{text_fits}
 use Rattle.drafts.specs.Added.{checked, room, known, children_fit, entered, accepted, same, makes, stands, sound, adds}
 use Rattle.drafts.specs.Left.{Leads, here, further, Left, ForeignOnly}
 use Rattle.drafts.proofs.Entering.{accepted_taken}
-use Rattle.drafts.proofs.Standing.{and_left, and_right, same_itself, stands_ok, sound_more}
+use Rattle.drafts.proofs.Standing.{same_itself, stands_ok, sound_more}
 
 pub same_waiting : (file : List ℕ) (old new : List Record) (n : ℕ) → ((i : ℕ) → i < n → at new i ≡ at old i) →
     (i : ℕ) → i ≤ n → waiting file new i ≡ waiting file old i
@@ -79,8 +80,8 @@ checked_ok file n rs p h =
     let h2 = pass (leb n (length rs) && sound file rs n) _ _ tt h1.1 in
     record {
       small = leb-true _ _ h1.0;
-      within = leb-true _ _ (and_left (leb n (length rs)) (sound file rs n) h2.0);
-      sound_so_far = and_right (leb n (length rs)) (sound file rs n) h2.0;
+      within = leb-true _ _ ((and_parts (leb n (length rs)) (sound file rs n) h2.0).0);
+      sound_so_far = (and_parts (leb n (length rs)) (sound file rs n) h2.0).1;
     }
 
 module _ (file : List ℕ) (n : ℕ) (rs : List Record) (p : ℕ) (a : Record × ℕ) where
@@ -127,8 +128,8 @@ adds_ok file n rs p a l h s ok =
 sound_leads : (file : List ℕ) (rs : List Record) (n : ℕ) → length file ≤ 65535 → n ≤ length rs → sound file rs n ≡ true → Leads file rs 0 rs n
 sound_leads file rs zero l h s = here
 sound_leads file rs (suc n) l h s =
-    let m = stands_ok file rs n (and_right (sound file rs n) (stands file rs n) s) in
-    let before : sound file rs n ≡ true = and_left (sound file rs n) (stands file rs n) s in
+    let m = stands_ok file rs n ((and_parts (sound file rs n) (stands file rs n) s).1) in
+    let before : sound file rs n ≡ true = (and_parts (sound file rs n) (stands file rs n) s).0 in
     let left : Leads file rs 0 (set rs n m.0.0) (n + 1) =
     further (sound_leads file rs n l (omega arith) before) (at rs n).place m.0 (adds_ok file n rs (at rs n).place m.0 l h before m.1.0) in
     subst (λ (k : ℕ). Leads file rs 0 rs k) (add-one n) (subst (λ (xs : List Record). Leads file rs 0 xs (n + 1)) (ap (set rs n) m.1.1 ∙ set-get_or rs n _) left)
@@ -200,7 +201,7 @@ honest_taken file n rs p false e h s = not_never (adds file n rs p) p (rw e)
 foreign_refused : (file : List ℕ) (n : ℕ) (rs : List Record) (p : ℕ) (b : Bool) → (leb n (length rs) && sound file rs n) ≡ b → length file ≤ 65535 →
     (adds file n rs p ≡ refused ForeignTable p → ⊥) → Left file rs n
 foreign_refused file n rs p true e l h =
-    (rs, sound_leads file rs n l (leb-true _ _ (and_left (leb n (length rs)) (sound file rs n) e)) (and_right (leb n (length rs)) (sound file rs n) e))
+    (rs, sound_leads file rs n l (leb-true _ _ ((and_parts (leb n (length rs)) (sound file rs n) e).0)) ((and_parts (leb n (length rs)) (sound file rs n) e).1))
 foreign_refused file n rs p false e l h = absurd (h (rw (le-leb (length file) 65535 l, e)))
 
 pub foreign_only : (file : List ℕ) → ForeignOnly file

@@ -1,20 +1,12 @@
 -- The grammar, in plain words.
-use Rattle.std.proofs.Common.{◌≡◌, ℕ, ◌-◌, ◌<◌, ◌≤◌, Bool, true, false, ◌&&◌, ◌||◌, eqb, ltb, ◌⊎◌, List, [], ◌∷◌, sym, refl, ap, ◌∙◌, inl, inr, ⊎_elim, arith, ltb-true, lt-ltb, eqb-true}
+use Rattle.std.proofs.Common.{◌≡◌, ℕ, ◌-◌, ◌<◌, ◌≤◌, Bool, true, ◌&&◌, eqb, ltb, List, [], ◌∷◌, sym, refl, ap, ◌∙◌, ⊎_elim, arith, ltb-true, lt-ltb, eqb-true}
+use Rattle.std.proofs.lemmas.Bool.{and_parts, or_cases, or_right}
 use Rattle.drafts.specs.declared.row.Set.{Set}
 use Rattle.drafts.specs.declared.row.Item.{Item}
 use Rattle.drafts.specs.Tree.{Nodes, none, ◌▸◌, many}
 use Rattle.drafts.specs.Grammar.{has, ends_in, empty, fits_behind, fits, set_of, least_of, most_of}
 use Rattle.drafts.specs.Plain.{◌⧺◌, all_in, Parts, FallsIntoParts}
-use Rattle.drafts.proofs.Standing.{and_left, and_right}
 use Rattle.drafts.proofs.Fitting.{ends_here}
-
-or_cases : (a b : Bool) → (a || b) ≡ true → (a ≡ true) ⊎ (b ≡ true)
-or_cases true b h = inl refl
-or_cases false b h = inr h
-
-or_right : (a b : Bool) → b ≡ true → (a || b) ≡ true
-or_right true b h = refl
-or_right false b h = h
 
 module _ (s : Set) (d : ℕ) (rest : Nodes → Bool) where
   -- nodes that end in such nodes
@@ -29,7 +21,7 @@ module _ (s : Set) (d : ℕ) (rest : Nodes → Bool) where
 
   split_here : (least most : ℕ) (ns : Nodes) → (eqb least 0 && rest ns) ≡ true → Split least most ns
   split_here least most ns h =
-      let z : least ≡ 0 = eqb-true least 0 (and_left (eqb least 0) (rest ns) h) in
+      let z : least ≡ 0 = eqb-true least 0 ((and_parts (eqb least 0) (rest ns) h).0) in
       record {
         front = ns;
         part = none;
@@ -37,7 +29,7 @@ module _ (s : Set) (d : ℕ) (rest : Nodes → Bool) where
         each = refl;
         at_least = omega arith;
         at_most = omega arith;
-        ahead = and_right (eqb least 0) (rest ns) h;
+        ahead = (and_parts (eqb least 0) (rest ns) h).1;
       }
 
   pub split_off : (least most : ℕ) (ns : Nodes) → ends_in s d rest least most ns ≡ true → Split least most ns
@@ -47,14 +39,14 @@ module _ (s : Set) (d : ℕ) (rest : Nodes → Bool) where
       let more : Bool = ends_in s d rest (least - 1) (most - 1) ns in
       ⊎_elim (split_here least most (ns ▸ n))
       (λ k.
-      let room : 0 < most = ltb-true 0 most (and_left one (has s d n && more) k) in
-      let k2 = and_right one (has s d n && more) k in
-      let r = split_off (least - 1) (most - 1) ns (and_right (has s d n) more k2) in
+      let room : 0 < most = ltb-true 0 most ((and_parts one (has s d n && more) k).0) in
+      let k2 = (and_parts one (has s d n && more) k).1 in
+      let r = split_off (least - 1) (most - 1) ns ((and_parts (has s d n) more k2).1) in
       record {
         front = r.front;
         part = r.part ▸ n;
         cut = ap (λ (ms : Nodes). ms ▸ n) r.cut;
-        each = rw r.each (and_left (has s d n) more k2);
+        each = rw r.each ((and_parts (has s d n) more k2).0);
         at_least = omega (arith, r.at_least);
         at_most = omega (arith, r.at_most);
         ahead = r.ahead;
@@ -65,9 +57,9 @@ module _ (s : Set) (d : ℕ) (rest : Nodes → Bool) where
       ends_in s d rest least most (front ⧺ part) ≡ true
   join_on least most front none e l m h = sym (ends_here s d rest least most front (omega arith) h)
   join_on least most front (part ▸ n) e l m h =
-      let more = join_on (least - 1) (most - 1) front part (and_left (all_in s d part) (has s d n) e) (omega arith) (omega arith) h in
+      let more = join_on (least - 1) (most - 1) front part ((and_parts (all_in s d part) (has s d n) e).0) (omega arith) (omega arith) h in
       or_right (eqb least 0 && rest ((front ⧺ part) ▸ n)) _
-      (rw (lt-ltb 0 most (omega arith), and_right (all_in s d part) (has s d n) e) more)
+      (rw (lt-ltb 0 most (omega arith), (and_parts (all_in s d part) (has s d n) e).1) more)
 
 -- the nodes of the items before, and those of this item
 

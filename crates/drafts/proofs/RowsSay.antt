@@ -1,12 +1,12 @@
 -- Some rows in words.
 use Rattle.std.proofs.Common.{◌≡◌, ℕ, ◌+◌, ◌≤◌, Bool, true, false, ◌&&◌, ◌||◌, eqb, ltb, leb, refl, ap, ◌∙◌, subst, arith, le-ltb, leb-true}
+use Rattle.std.proofs.lemmas.Bool.{and_parts}
 use Rattle.drafts.specs.declared.row.Set.TheVariants.{Declarator}
 use Rattle.drafts.specs.Tree.{Nodes, node, none, ◌▸◌, many}
 use Rattle.drafts.specs.Grammar.{first_is, fits}
 use Rattle.drafts.specs.Table.{row_of, rows, items_of, fewest_of}
 use Rattle.drafts.specs.Added.{allowed}
 use Rattle.drafts.specs.Plain.{◌⧺◌, all_in, Parts, names_only, RowsSay}
-use Rattle.drafts.proofs.Standing.{and_left, and_right}
 use Rattle.drafts.proofs.Plainly.{falls}
 
 many_joined : (front part : Nodes) → many (front ⧺ part) ≡ many front + many part
@@ -18,14 +18,14 @@ unfolding allowed
 row_parts kind d ns h =
     let few : Bool = leb (fewest_of (row_of kind)) (many ns) in
     let fit : Bool = fits (items_of (row_of kind)) d ns in
-    (leb-true _ _ (and_left few fit h), falls (items_of (row_of kind)) d ns (and_right few fit h))
+    (leb-true _ _ ((and_parts few fit h).0), falls (items_of (row_of kind)) d ns ((and_parts few fit h).1))
 
 names_from : (d : ℕ) (ns : Nodes) → ltb d 3 ≡ false → all_in Declarator d ns ≡ true → names_only ns ≡ true
 names_from d none f h = refl
 names_from d (ns ▸ node x below) f h =
-    let here : (eqb x.kind 39 && (ltb d 3 || first_is 42 below)) ≡ true = and_right (all_in Declarator d ns) _ h in
+    let here : (eqb x.kind 39 && (ltb d 3 || first_is 42 below)) ≡ true = (and_parts (all_in Declarator d ns) _ h).1 in
     let plain : (eqb x.kind 39 && first_is 42 below) ≡ true = subst (λ (b : Bool). (eqb x.kind 39 && (b || first_is 42 below)) ≡ true) f here in
-    rw (names_from d ns f (and_left (all_in Declarator d ns) _ h)) plain
+    rw (names_from d ns f ((and_parts (all_in Declarator d ns) _ h).0)) plain
 
 sequence : (d : ℕ) (ns : Nodes) → allowed 13 d ns ≡ true → 1 ≤ many ns
 unfolding rows

@@ -1,19 +1,12 @@
 -- Records that stand.
 use Rattle.std.proofs.Common.{◌≡◌, ℕ, zero, suc, ◌+◌, ◌<◌, Bool, true, false, ◌&&◌, eqb, ltb, leb, List, Ok, Err, Result, sym, refl, subst, add-one, arith, ltb-false, ltb-true, eq-eqb, eqb-true, leb-true}
+use Rattle.std.proofs.lemmas.Bool.{and_parts}
 use Rattle.packed.specs.declared.refusal.Refusal.{Refusal}
 use Rattle.packed.specs.Fields.{next_at}
 use Rattle.drafts.specs.declared.record.Record.{Record}
 use Rattle.drafts.specs.Tree.{many, last_of, waiting, at, Spanned}
 use Rattle.drafts.specs.Added.{allowed, accepted, same, makes, stands, sound}
 use Rattle.drafts.proofs.Entering.{Taken, accepted_taken}
-
-pub and_left : (a b : Bool) → (a && b) ≡ true → a ≡ true
-and_left true b h = refl
-and_left false b h = h
-
-pub and_right : (a b : Bool) → (a && b) ≡ true → b ≡ true
-and_right true b h = h
-and_right false b h = absurd (let z : ◌≡◌ {A = ℕ} 0 1 = cc in omega arith)
 
 -- the same record
 
@@ -40,15 +33,15 @@ same_is a r h =
     let count : Bool = eqb a.count r.count in
     let reference : Bool = eqb a.reference r.reference in
     let span : Bool = eqb a.span r.span in
-    let h1 : (kind && (detail && (count && (reference && span)))) ≡ true = and_right place (kind && (detail && (count && (reference && span)))) h in
-    let h2 : (detail && (count && (reference && span))) ≡ true = and_right kind (detail && (count && (reference && span))) h1 in
-    let h3 : (count && (reference && span)) ≡ true = and_right detail (count && (reference && span)) h2 in
-    let h4 : (reference && span) ≡ true = and_right count (reference && span) h3 in
+    let h1 : (kind && (detail && (count && (reference && span)))) ≡ true = (and_parts place (kind && (detail && (count && (reference && span)))) h).1 in
+    let h2 : (detail && (count && (reference && span))) ≡ true = (and_parts kind (detail && (count && (reference && span))) h1).1 in
+    let h3 : (count && (reference && span)) ≡ true = (and_parts detail (count && (reference && span)) h2).1 in
+    let h4 : (reference && span) ≡ true = (and_parts count (reference && span) h3).1 in
     same_made a.place a.kind a.detail a.count a.reference a.span r
-    (eqb-true _ _ (and_left place (kind && (detail && (count && (reference && span)))) h))
-    (eqb-true _ _ (and_left kind (detail && (count && (reference && span))) h1))
-    (eqb-true _ _ (and_left detail (count && (reference && span)) h2)) (eqb-true _ _ (and_left count (reference && span) h3))
-    (eqb-true _ _ (and_left reference span h4)) (eqb-true _ _ (and_right reference span h4))
+    (eqb-true _ _ ((and_parts place (kind && (detail && (count && (reference && span)))) h).0))
+    (eqb-true _ _ ((and_parts kind (detail && (count && (reference && span))) h1).0))
+    (eqb-true _ _ ((and_parts detail (count && (reference && span)) h2).0)) (eqb-true _ _ ((and_parts count (reference && span) h3).0))
+    (eqb-true _ _ ((and_parts reference span h4).0)) (eqb-true _ _ ((and_parts reference span h4).1))
 
 makes_ok : (r : Record) (x : Result (Record × ℕ) Refusal) → makes r x ≡ true → (a : Record × ℕ) × ((x ≡ Ok a) × (a.0 ≡ r))
 makes_ok r (Ok a) h = (a, (refl, same_is a.0 r h))
@@ -68,7 +61,7 @@ at_or P i n false e l f here = subst P (omega (arith, ltb-false i n e)) here
 pub sound_at : (file : List ℕ) (rs : List Record) (n i : ℕ) → sound file rs n ≡ true → i < n → stands file rs i ≡ true
 sound_at file rs zero i h l = absurd (omega arith)
 sound_at file rs (suc n) i h l =
-    at_or (λ k. stands file rs k ≡ true) i n (ltb i n) refl l (sound_at file rs n i (and_left _ _ h)) (and_right _ _ h)
+    at_or (λ k. stands file rs k ≡ true) i n (ltb i n) refl l (sound_at file rs n i ((and_parts _ _ h).0)) ((and_parts _ _ h).1)
 
 pub stands_taken : (file : List ℕ) (rs : List Record) (i : ℕ) → stands file rs i ≡ true →
     Taken file (waiting file rs i) i (at rs i).place (at rs i) (next_at file (at rs i).place)
@@ -81,7 +74,7 @@ stands_taken file rs i h =
 pub spanned : (file : List ℕ) (rs : List Record) (n : ℕ) → sound file rs n ≡ true → Spanned file rs n
 spanned file rs n h i l =
     let t = stands_taken file rs i (sound_at file rs n i h l) in
-    (leb-true _ _ (and_left (leb (at rs i).count (many (waiting file rs i))) (allowed (at rs i).kind (at rs i).detail (last_of (at rs i).count (waiting file rs i))) t.fit), t.spans)
+    (leb-true _ _ ((and_parts (leb (at rs i).count (many (waiting file rs i))) (allowed (at rs i).kind (at rs i).detail (last_of (at rs i).count (waiting file rs i))) t.fit).0), t.spans)
 
 is_false : (b : Bool) → (b ≡ true → ⊥) → false ≡ b
 is_false true h = absurd (h refl)
