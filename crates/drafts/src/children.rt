@@ -152,19 +152,21 @@ impl Last<'_> {
         let Some((item, before)) = items.split_last() else {
             return self.count == 0;
         };
+        let set = item.set();
+        let least = item.least(detail);
         let mut rest = self;
-        for taken in 0..=item.most(detail) {
-            if taken >= item.least(detail) && rest.fit(before, detail) {
+        for taken in 0..item.most(detail) {
+            if taken >= least && rest.fit(before, detail) {
                 return true;
             }
             let Some(node) = rest.next() else {
                 return false;
             };
-            if !node.belongs(item.set(), detail) {
+            if !node.belongs(set, detail) {
                 return false;
             }
         }
-        false
+        rest.fit(before, detail)
     }
 }
 

@@ -32,6 +32,7 @@ impl<'a> Iterator for DeclaredNames<'a> {
 
     ghost remaining = { item_count names_left };
 
+    #[inline(always)]
     fn next(&mut self) -> Option<&'a [u8]> {
         // A chain of adapters would stand twice, where names are counted and where one is looked for, as no function can answer `impl Iterator`.
         while let Some(field) = self.fields.next() {

@@ -25,6 +25,7 @@ pub trait Gathers {
 }
 
 /// Takes a field that is no node, and answers the switches after it.
+#[inline(always)]
 fn take<G: Gathers>(host: &mut G, switches: Switches, field: Field<'_>) -> Result<Switches, Reason>
     ensures step { with_records result (G.records host.new) ≡ host_takes (G.takes host.old) (record { scopes = G.records host.old; switches = switches }) (told field.entry) }
     ensures same { G.takes host.new ≡ G.takes host.old }

@@ -9,7 +9,7 @@ ghost use Rattle.hosts.specs.NameMeaning.{declared, name_made, name_view};
 use crate::declared_names::DeclaredNames;
 use crate::gathering::{Gathers, gather};
 use crate::global_context::GlobalContext;
-use crate::side_effects::context::MayHaveSideEffectsContext;
+use crate::side_effects::context::{MayHaveSideEffectsContext, PropertyReadSideEffects};
 use crate::switches::Switches;
 use packed::{Field, Reason, Refusal, Switch, ValueType};
 use text::is_utf8;
@@ -86,10 +86,18 @@ impl<'a> GlobalContext for NameHost<'a> {
     }
 }
 
-// A table host has the same two methods: a generic host over both would be longer than what it saves.
+// A table host has the same four methods: a generic host over both would be longer than what it saves.
 impl<'a> MayHaveSideEffectsContext for NameHost<'a> {
-    fn switches(&self) -> Switches {
-        self.switches
+    fn property_read_side_effects(&self) -> PropertyReadSideEffects {
+        self.switches.property_reads()
+    }
+
+    fn property_write_side_effects(&self) -> bool {
+        self.switches.writes
+    }
+
+    fn unknown_global_side_effects(&self) -> bool {
+        self.switches.unknown_globals
     }
 
     fn loosen(&mut self, switch: Switch) {

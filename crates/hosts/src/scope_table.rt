@@ -16,24 +16,20 @@ pub struct ScopeTable {
 }
 
 impl Ascending for ScopeTable {
-    type Entry = Scope;
-
-    ghost key = { λ _ s. s.reference ∷ [] };
-
     ghost keys = { λ t. scope_keys t.records.items };
 
     ghost ascent = { λ t. t.ascent };
 
-    fn entries(&self) -> &[Scope] {
-        &self.records
+    fn len(&self) -> usize {
+        self.records.len()
     }
 }
 
 impl OrderedTable<u16> for ScopeTable {
     ghost sought = { λ n. n ∷ [] };
 
-    fn compare(&self, entry: &Scope, key: u16) -> Ordering {
-        entry.reference.cmp(&key)
+    fn compare(&self, i: usize, key: u16) -> Ordering {
+        self.records[i].reference.cmp(&key)
     }
 }
 

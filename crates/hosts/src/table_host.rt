@@ -8,7 +8,7 @@ ghost use Rattle.hosts.specs.TableMeaning.{record_of, table_made, table_view};
 use crate::gathering::{Gathers, gather};
 use crate::global_context::GlobalContext;
 use crate::scope_table::ScopeTable;
-use crate::side_effects::context::MayHaveSideEffectsContext;
+use crate::side_effects::context::{MayHaveSideEffectsContext, PropertyReadSideEffects};
 use crate::switches::Switches;
 use packed::{Field, Reason, Refusal, Scope, Switch, Tag, ValueType};
 
@@ -79,10 +79,18 @@ impl GlobalContext for TableHost {
     }
 }
 
-// A name host has the same two methods: a generic host over both would be longer than what it saves.
+// A name host has the same four methods: a generic host over both would be longer than what it saves.
 impl MayHaveSideEffectsContext for TableHost {
-    fn switches(&self) -> Switches {
-        self.switches
+    fn property_read_side_effects(&self) -> PropertyReadSideEffects {
+        self.switches.property_reads()
+    }
+
+    fn property_write_side_effects(&self) -> bool {
+        self.switches.writes
+    }
+
+    fn unknown_global_side_effects(&self) -> bool {
+        self.switches.unknown_globals
     }
 
     fn loosen(&mut self, switch: Switch) {

@@ -14,24 +14,20 @@ struct AtMostOne {
 }
 
 impl Ascending for AtMostOne {
-    type Entry = u16;
-
-    ghost key = { λ _ n. n ∷ [] };
-
     ghost keys = { λ t. cond t.has_entry ((9 ∷ []) ∷ []) [] };
 
     ghost ascent = { λ t. cond_both t.has_entry _ _ (λ ks. ascends ks ≡ true) (λ _. refl) (λ _. refl) };
 
-    fn entries(&self) -> &[u16] {
-        if self.has_entry { &[9] } else { &[] }
+    fn len(&self) -> usize {
+        usize::from(self.has_entry)
     }
 }
 
 impl OrderedTable<u16> for AtMostOne {
     ghost sought = { λ n. n ∷ [] };
 
-    fn compare(&self, entry: &u16, key: u16) -> Ordering {
-        entry.cmp(&key)
+    fn compare(&self, _i: usize, key: u16) -> Ordering {
+        9u16.cmp(&key)
     }
 }
 
@@ -42,24 +38,20 @@ const NUMBERS: [u16; 6] = [3, 7, 8, 300, 301, 40_000];
 struct Numbers;
 
 impl Ascending for Numbers {
-    type Entry = u16;
-
-    ghost key = { λ _ n. n ∷ [] };
-
     ghost keys = { λ _. (3 ∷ []) ∷ ((7 ∷ []) ∷ ((8 ∷ []) ∷ ((300 ∷ []) ∷ ((301 ∷ []) ∷ ((40000 ∷ []) ∷ []))))) };
 
     ghost ascent = { λ _. refl };
 
-    fn entries(&self) -> &[u16] {
-        &NUMBERS
+    fn len(&self) -> usize {
+        6
     }
 }
 
 impl OrderedTable<u16> for Numbers {
     ghost sought = { λ n. n ∷ [] };
 
-    fn compare(&self, entry: &u16, key: u16) -> Ordering {
-        entry.cmp(&key)
+    fn compare(&self, i: usize, key: u16) -> Ordering {
+        NUMBERS[i].cmp(&key)
     }
 }
 
@@ -70,24 +62,20 @@ const NAMES: [&str; 4] = ["a", "ab", "b", "ba"];
 struct Names;
 
 impl Ascending for Names {
-    type Entry = &'static str;
-
-    ghost key = { λ _ n. n.now };
-
     ghost keys = { λ _. codes "a" ∷ (codes "ab" ∷ (codes "b" ∷ (codes "ba" ∷ []))) };
 
     ghost ascent = { λ _. refl };
 
-    fn entries(&self) -> &[&'static str] {
-        &NAMES
+    fn len(&self) -> usize {
+        4
     }
 }
 
 impl<'a> OrderedTable<&'a str> for Names {
     ghost sought = { λ k. k.now };
 
-    fn compare(&self, entry: &&'static str, key: &'a str) -> Ordering {
-        (*entry).cmp(&key)
+    fn compare(&self, i: usize, key: &'a str) -> Ordering {
+        NAMES[i].cmp(&key)
     }
 }
 

@@ -3,7 +3,7 @@
 ghost use Rattle.std.specs.Prelude.{◌≡◌, true, None, refl};
 ghost use Rattle.hosts.specs.Host.{all_counted};
 
-use hosts::{GlobalContext, MayHaveSideEffectsContext, Switches};
+use hosts::{GlobalContext, MayHaveSideEffectsContext, PropertyReadSideEffects, Switches};
 use packed::{Switch, ValueType};
 
 /// A host that knows no names and no types: everything is outer.
@@ -38,8 +38,16 @@ impl GlobalContext for OuterHost {
 }
 
 impl MayHaveSideEffectsContext for OuterHost {
-    fn switches(&self) -> Switches {
-        self.switches
+    fn property_read_side_effects(&self) -> PropertyReadSideEffects {
+        self.switches.property_reads()
+    }
+
+    fn property_write_side_effects(&self) -> bool {
+        self.switches.writes
+    }
+
+    fn unknown_global_side_effects(&self) -> bool {
+        self.switches.unknown_globals
     }
 
     fn loosen(&mut self, switch: Switch) {

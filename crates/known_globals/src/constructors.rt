@@ -4,6 +4,8 @@ ghost use Rattle.std.specs.Prelude.{◌≡◌};
 ghost use Rattle.tables.specs.Order.{listed};
 ghost use Rattle.known_globals.specs.Constructors.{known_constructors};
 
+use crate::sets::among;
+
 /// The known constructors.
 const CONSTRUCTORS: &[&str] = &[
     "AggregateError",
@@ -53,5 +55,5 @@ const CONSTRUCTORS: &[&str] = &[
 pub fn is_known_global_constructor(name: &str) -> bool
     ensures { result ≡ listed known_constructors name.now }
 {
-    CONSTRUCTORS.contains(&name)
+    among(name, CONSTRUCTORS)
 }

@@ -1,22 +1,18 @@
 //! The known global identifiers.
 
-ghost use Rattle.std.specs.Prelude.{◌≡◌};
-ghost use Rattle.tables.specs.Order.{listed};
+ghost use Rattle.std.specs.Prelude.{◌≡◌, true};
+ghost use Rattle.tables.specs.Order.{ascends, listed};
 ghost use Rattle.known_globals.specs.Identifiers.{known_names};
 
-use crate::names::{A_TO_G, H_TO_R, LOWERCASE, Names, S_TO_X};
+use crate::names::part_of;
+use tables::find;
 
 /// Whether the name is a known global identifier, one that is read without side effects.
 ///
 /// `NaN`, `Infinity` and `undefined` are not in the list: they are special cases of their own.
 pub fn is_known_global_identifier(name: &str) -> bool
-    ensures { result ≡ listed known_names name.now }
+    ensures answer { result ≡ listed known_names name.now }
+    ensures ascent { ascends known_names ≡ true }
 {
-    let tables = [
-        Names { names: A_TO_G },
-        Names { names: H_TO_R },
-        Names { names: S_TO_X },
-        Names { names: LOWERCASE },
-    ];
-    tables.iter().any(|table| table.has(name))
+    find(&part_of(name), name).is_some()
 }

@@ -8,6 +8,7 @@ mod constructors;
 mod identifiers;
 mod names;
 mod properties;
+mod sets;
 
 pub use constructors::is_known_global_constructor;
 pub use identifiers::is_known_global_identifier;

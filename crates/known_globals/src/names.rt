@@ -1,54 +1,57 @@
 //! The names of the known global identifiers, in byte order.
 //!
-//! They stand in four tables: one constant of all the names takes more steps than the check of a constant may.
+//! They stand in four parts, one behind the other: one constant of all the names takes more steps than the check of a constant may.
 
 ghost use Rattle.std.specs.Prelude.{◌≡◌, true, map};
 ghost use Rattle.tables.specs.Order.{ascends, listed};
+ghost use Rattle.known_globals.specs.Identifiers.{known_names};
 
 use std::cmp::Ordering;
-use tables::{Ascending, OrderedTable, find};
+use tables::{Ascending, OrderedTable};
 
 /// Names in strictly ascending byte order.
 #[derive(Drop)]
 pub struct Names {
-    pub names: &'static [&'static str],
+    names: &'static [&'static str],
     ghost ascent: { ascends (map (λ n. n.now) names.now) ≡ true },
 }
 
 impl Ascending for Names {
-    type Entry = &'static str;
-
-    ghost key = { λ _ n. n.now };
-
     ghost keys = { λ t. map (λ n. n.now) t.names.now };
 
     ghost ascent = { λ t. t.ascent };
 
-    fn entries(&self) -> &[&'static str] {
-        self.names
+    fn len(&self) -> usize {
+        self.names.len()
     }
 }
 
 impl<'a> OrderedTable<&'a str> for Names {
     ghost sought = { λ k. k.now };
 
-    fn compare(&self, entry: &&'static str, key: &'a str) -> Ordering {
-        (*entry).cmp(&key)
+    fn compare(&self, i: usize, key: &'a str) -> Ordering {
+        self.names[i].cmp(key)
     }
 }
 
-impl Names {
-    /// Whether the name is one of these.
-    #[tactic(auto, using(tables::proofs::Listed::position_listed))]
-    pub fn has(&self, name: &str) -> bool
-        ensures { result ≡ listed (map (λ n. n.now) self.now.names.now) name.now }
-    {
-        find(self, name).is_some()
+/// The part that would have the name, by its first letter.
+pub fn part_of(name: &str) -> Names
+    ensures { listed (map (λ n. n.now) result.names.now) name.now ≡ listed known_names name.now }
+{
+    if name < "H" {
+        return Names { names: A_TO_G };
     }
+    if name < "S" {
+        return Names { names: H_TO_R };
+    }
+    if name < "a" {
+        return Names { names: S_TO_X };
+    }
+    Names { names: LOWERCASE }
 }
 
 /// The names that begin with `A` to `G`.
-pub const A_TO_G: &[&str] = &[
+const A_TO_G: &[&str] = &[
     "AbortController",
     "AbortSignal",
     "AggregateError",
@@ -161,7 +164,7 @@ pub const A_TO_G: &[&str] = &[
 ];
 
 /// The names that begin with `H` to `R`.
-pub const H_TO_R: &[&str] = &[
+const H_TO_R: &[&str] = &[
     "HTMLAllCollection",
     "HTMLAnchorElement",
     "HTMLAreaElement",
@@ -350,7 +353,7 @@ pub const H_TO_R: &[&str] = &[
 ];
 
 /// The names that begin with `S` to `X`.
-pub const S_TO_X: &[&str] = &[
+const S_TO_X: &[&str] = &[
     "SVGAElement",
     "SVGAngle",
     "SVGAnimateElement",
@@ -525,7 +528,7 @@ pub const S_TO_X: &[&str] = &[
 ];
 
 /// The names that begin with a small letter.
-pub const LOWERCASE: &[&str] = &[
+const LOWERCASE: &[&str] = &[
     "alert",
     "atob",
     "blur",

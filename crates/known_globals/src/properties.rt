@@ -4,6 +4,8 @@ ghost use Rattle.std.specs.Prelude.{◌≡◌, map, codes};
 ghost use Rattle.tables.specs.Order.{listed};
 ghost use Rattle.known_globals.specs.Properties.{pure_math_methods, known_property, known_property_deep};
 
+use crate::sets::among;
+
 /// The known constants of `Math`.
 const MATH_CONSTANTS: &[&str] = &[
     "E", "LN10", "LN2", "LOG10E", "LOG2E", "PI", "SQRT1_2", "SQRT2",
@@ -139,13 +141,13 @@ pub fn is_known_global_property(global: &str, property: &str) -> bool
     ensures { result ≡ known_property global.now property.now }
 {
     match global {
-        "Math" => MATH_CONSTANTS.contains(&property) || is_pure_math_method(property),
-        "Number" => NUMBER.contains(&property),
-        "console" => CONSOLE.contains(&property),
-        "Object" => OBJECT.contains(&property),
-        "Reflect" => REFLECT.contains(&property),
-        "Symbol" => SYMBOL.contains(&property),
-        "JSON" => JSON.contains(&property),
+        "Math" => among(property, MATH_CONSTANTS) || is_pure_math_method(property),
+        "Number" => among(property, NUMBER),
+        "console" => among(property, CONSOLE),
+        "Object" => among(property, OBJECT),
+        "Reflect" => among(property, REFLECT),
+        "Symbol" => among(property, SYMBOL),
+        "JSON" => among(property, JSON),
         _ => false,
     }
 }
@@ -155,7 +157,7 @@ pub fn is_known_global_property(global: &str, property: &str) -> bool
 pub fn is_known_global_property_deep(global: &str, middle: &str, property: &str) -> bool
     ensures { result ≡ known_property_deep global.now middle.now property.now }
 {
-    global == "Object" && middle == "prototype" && OBJECT_PROTOTYPE.contains(&property)
+    global == "Object" && middle == "prototype" && among(property, OBJECT_PROTOTYPE)
 }
 
 /// Whether the method of `Math` has no side effects.
@@ -163,5 +165,5 @@ pub fn is_known_global_property_deep(global: &str, middle: &str, property: &str)
 fn is_pure_math_method(method: &str) -> bool
     ensures { result ≡ listed (map codes pure_math_methods) method.now }
 {
-    MATH_METHODS.contains(&method)
+    among(method, MATH_METHODS)
 }

@@ -1,5 +1,5 @@
 -- What the reader answers.
-use Rattle.std.specs.Prelude.{ℕ, cond, List, length, Some, None, Ok, Err, Option, Result, ◌==◌, nat_le, nat_lt}
+use Rattle.std.specs.Prelude.{ℕ, cond, List, length, Ok, Err, Result, ◌==◌, nat_le, nat_lt}
 use Rattle.packed.specs.declared.field.Field.{Field}
 use Rattle.packed.specs.declared.node.RawNode.{RawNode}
 use Rattle.packed.specs.declared.refusal.Reason.{Reason}
@@ -18,15 +18,6 @@ and_then (Err e) f = Err e
 abbrev pub said : Result (Field × ℕ) Refusal → Result (Told × ℕ) Refusal
 said (Ok a) = Ok (told a.0, a.1)
 said (Err e) = Err e
-
--- the field at p and the place of the next, if it ends within the file
-abbrev pub whole_at : List ℕ → ℕ → Option (Told × ℕ)
-whole_at file p = cond (nat_le (next_at file p) (length file)) (Some (field_at file p, next_at file p)) None
-
--- the same with the field by its values
-abbrev pub said_whole : Option (Field × ℕ) → Option (Told × ℕ)
-said_whole (Some a) = Some (told a.0, a.1)
-said_whole None = None
 
 -- a file of more than 65,535 bytes is refused first, then a field that does not end within the file
 abbrev pub read_at : List ℕ → ℕ → Result (Told × ℕ) Refusal

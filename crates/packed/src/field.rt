@@ -3,7 +3,7 @@
 ghost use Rattle.std.specs.Prelude.{◌≡◌};
 ghost use Rattle.packed.specs.Fields.{told, has_node_tag, tag_named, field_of};
 ghost use Rattle.packed.specs.Layout.{Reads};
-ghost use Rattle.packed.specs.Reading.{said, said_whole, whole_at, read_at};
+ghost use Rattle.packed.specs.Reading.{said, read_at};
 
 use super::node::RawNode;
 use super::refusal::{Reason, Refusal};
@@ -38,6 +38,7 @@ pub enum Field<'a> {
 
 impl Field<'_> {
     /// The tag, if it is a known one, whatever the payload.
+    #[inline(always)]
     pub fn tag(self) -> Option<Tag>
         ensures { result ≡ tag_named (told self.entry) }
     {
@@ -51,6 +52,7 @@ impl Field<'_> {
     }
 
     /// Whether the tag is that of a node, whatever the payload.
+    #[inline(always)]
     pub fn has_node_tag(self) -> bool
         ensures { result ≡ has_node_tag (told self.entry) }
     {
@@ -85,18 +87,6 @@ fn field_of(tag: u8, payload: &[u8]) -> Field<'_>
     }
 }
 
-/// The field at `place`, if it ends within the file, and the place of the next.
-#[inline(always)]
-fn field_at(file: &[u8], place: usize) -> Option<(Field<'_>, usize)>
-    ensures { said_whole result ≡ whole_at file.now place }
-{
-    let [tag, high, low, rest @ ..] = file.get(place..)? else {
-        return None;
-    };
-    let payload = rest.get(..usize::from(u16::from_be_bytes([*high, *low])))?;
-    Some((field_of(*tag, payload), place + 3 + payload.len()))
-}
-
 /// The field at `place` and the place of the next; or the refusal of a file that is too long, or of a field that is cut.
 #[inline(always)]
 pub fn read_field(file: &[u8], place: usize) -> Result<(Field<'_>, usize), Refusal>
@@ -109,8 +99,15 @@ pub fn read_field(file: &[u8], place: usize) -> Result<(Field<'_>, usize), Refus
             place: MAX_FILE,
         });
     }
-    field_at(file, place).ok_or(Refusal {
+    let cut = Refusal {
         reason: Reason::CutField,
         place,
-    })
+    };
+    let Some([tag, high, low, rest @ ..]) = file.get(place..) else {
+        return Err(cut);
+    };
+    let Some(payload) = rest.get(..usize::from(u16::from_be_bytes([*high, *low]))) else {
+        return Err(cut);
+    };
+    Ok((field_of(*tag, payload), place + 3 + payload.len()))
 }

@@ -31,6 +31,7 @@ impl<'a> Iterator for Fields<'a> {
 
     ghost remaining = { item_count fields_left };
 
+    #[inline(always)]
     fn next(&mut self) -> Option<Result<(usize, Field<'a>), Refusal>> {
         let place = self.place;
         if place == self.file.len() {

@@ -18,17 +18,26 @@ pub enum Switch {
     UnknownGlobals = 3,
 }
 
+impl Switch {
+    /// The switch of this number in the format.
+    pub fn of_number(number: u8) -> Option<Switch>
+        ensures { result ≡ switch_of number }
+    {
+        match number {
+            1 => Some(Switch::PropertyReads),
+            2 => Some(Switch::PropertyWrites),
+            3 => Some(Switch::UnknownGlobals),
+            _ => None,
+        }
+    }
+}
+
 impl TryFrom<u8> for Switch {
     type Error = Reason;
 
     ghost try_from_gives = { λ n r. r ≡ ok_or (switch_of n) BadSwitch };
 
     fn try_from(number: u8) -> Result<Switch, Reason> {
-        match number {
-            1 => Ok(Switch::PropertyReads),
-            2 => Ok(Switch::PropertyWrites),
-            3 => Ok(Switch::UnknownGlobals),
-            _ => Err(Reason::BadSwitch),
-        }
+        Switch::of_number(number).ok_or(Reason::BadSwitch)
     }
 }

@@ -9,9 +9,9 @@ use Rattle.drafts.proofs.lines.line_count.Goals as goal
 
 pub invariant_of-lines : goal.invariant_of-lines
 invariant_of-lines c =
-    let ok = checked_ok c.args.file.now c.args.draft.now.nodes c.args.table.now _ (sym c.in_ok-check.ensures) in
+    let ok = checked_ok c.args.file.now _ c.args.table.now _ (sym c.in_ok-check.ensures) in
     let whole : Spanned c.args.file.now c.args.table.now c.from.result =
-    rw c.from.ensures (spanned c.args.file.now c.args.table.now c.args.draft.now.nodes ok.sound_so_far) in
+    rw c.from.ensures (spanned c.args.file.now c.args.table.now _ ok.sound_so_far) in
     record { spanned = whole; within = omega (arith, c.from.ensures, ok.within) }
 
 pub count-requires-clause-fits : goal.count-requires-clause-fits

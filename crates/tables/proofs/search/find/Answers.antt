@@ -1,18 +1,33 @@
-use Rattle.std.proofs.Common.{◌≡◌, ◌∙◌, ap, rules, tests}
-use Rattle.std.proofs.lemmas.Fn.{always_returns_same}
-use Rattle.tables.specs.Order.{order, ascends, position}
-use Rattle.tables.proofs.Ascent.{searched, located}
+use Rattle.std.proofs.Common.{arith}
+use Rattle.tables.proofs.Ascent.{below_more, above_more, position_found, position_missing, located}
 use Rattle.tables.proofs.search.find.Goals as goal
 
-pub returns : goal.returns
-returns g c =
-    let key = g.T.Ascending.key c.args.table.now in
+pub loop-low-preserved-in-Less : goal.loop-low-preserved-in-Less
+loop-low-preserved-in-Less g c =
     let ks = g.T.Ascending.keys c.args.table.now in
     let up = g.met.T.Ascending.ascent c.args.table.now in
     let k = g.T.OrderedTable.sought c.args.key in
-    let by = c.binary_search_by.ensures.position (λ e. order (key e) k) (always_returns_same _ _ _ (λ a r q k. search (rules, tests))) in
-    let here : c.ok.result ≡ position ks k =
-    c.ok.ensures.value
-    ∙ searched key c.entries.result.now (ap ascends c.entries.ensures ∙ up) k c.binary_search_by.result c.binary_search_by.ensures.bound by
-    ∙ ap (λ l. position l k) c.entries.ensures in
+    (c.loop-low.invariant.0, below_more ks up k _ (omega arith) c.in-Less.ensures, c.loop-low.invariant.2)
+
+pub loop-low-preserved : goal.loop-low-preserved
+loop-low-preserved g c =
+    let ks = g.T.Ascending.keys c.args.table.now in
+    let up = g.met.T.Ascending.ascent c.args.table.now in
+    let k = g.T.OrderedTable.sought c.args.key in
+    (omega arith, c.loop-low.invariant.1, above_more ks up k _ (omega arith) c.in-Greater.ensures)
+
+pub returns-in-Equal : goal.returns-in-Equal
+returns-in-Equal g c =
+    let ks = g.T.Ascending.keys c.args.table.now in
+    let up = g.met.T.Ascending.ascent c.args.table.now in
+    let k = g.T.OrderedTable.sought c.args.key in
+    let here = position_found ks up k _ (omega arith) c.in-Equal.ensures in
     record { value = here; located = located ks up k _ here }
+
+pub returns : goal.returns
+returns g c =
+    let ks = g.T.Ascending.keys c.args.table.now in
+    let up = g.met.T.Ascending.ascent c.args.table.now in
+    let k = g.T.OrderedTable.sought c.args.key in
+    let nowhere = position_missing ks k c.loop-low.low c.loop-low.high c.loop-low-test.false c.loop-low.invariant.1 c.loop-low.invariant.2 in
+    record { value = nowhere; located = located ks up k _ nowhere }
